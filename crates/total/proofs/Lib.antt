@@ -1,0 +1,5 @@
+pub mod Numbers
+pub mod SumLaws
+pub mod WorstLaws
+pub mod BothLaws
+pub mod Unlawfuls

@@ -1,0 +1,4 @@
+pub mod Laws
+pub mod Kinds
+pub mod Pairs
+pub mod Unlawful
