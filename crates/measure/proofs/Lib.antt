@@ -1,0 +1,5 @@
+pub mod Ints
+pub mod Runs
+pub mod Points
+pub mod Answered
+pub mod Swept

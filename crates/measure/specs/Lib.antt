@@ -1,0 +1,6 @@
+pub mod Chords
+pub mod Between
+pub mod Steps
+pub mod Least
+pub mod Area
+pub mod Layers
