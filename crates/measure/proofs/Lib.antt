@@ -3,3 +3,5 @@ pub mod Runs
 pub mod Points
 pub mod Answered
 pub mod Swept
+pub mod Rounded
+pub mod Lags

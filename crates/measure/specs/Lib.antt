@@ -4,3 +4,4 @@ pub mod Steps
 pub mod Least
 pub mod Area
 pub mod Layers
+pub mod Synchronous

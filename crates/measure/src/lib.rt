@@ -5,3 +5,4 @@ mod chord;
 pub mod corners;
 pub mod measure;
 pub mod span;
+pub mod synchronous;

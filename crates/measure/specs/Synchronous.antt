@@ -1,0 +1,44 @@
+-- The synchronous measure: where a pen that runs evenly along the chord is at a point's time, beside where the point is.
+--   lag              (at − from)·whole − part·(to − from): how far a point at the time part is from such a pen, times whole
+--   lags p q k       the squares of the lags of k in both coordinates, on the chord from p to q
+--   all-lags         their sum over the points strictly between i and j
+--   synchronous      that sum over the square of the time from i to j, rounded up
+--   Enough ps i j e  the sum is at most e times that square
+--   Least-synchronous   an answered error is the least whole number that is enough
+use Prim.Native.Nat.{ℕ, _+_, _-_, _*_, _≤_}
+use mathlib.Core.Path.{_≡_}
+use mathlib.Core.List.{List}
+use lib.IntN.{ℤ, pos, _-ℤ_, _*ℤ_}
+use Rattle.std.specs.declared.option.Option.the-variants.{Some}
+use Rattle.tray.specs.declared.point.Point.{Point}
+use Rattle.tray.specs.Stroke.{numbered, Lawful}
+use Rattle.tray.specs.Reductions.{Meaning}
+use Rattle.measure.specs.Chords.{lasting, bare}
+use Rattle.measure.specs.Between.{sum-between}
+use Rattle.measure.specs.Steps.{square, rounded-up}
+use Rattle.measure.specs.Least.{Least}
+
+abbrev pub lag : ℤ → ℤ → ℤ → ℕ → ℕ → ℤ
+lag from at to part whole = (at -ℤ from) *ℤ pos whole -ℤ pos part *ℤ (to -ℤ from)
+
+abbrev pub lags : Point → Point → Point → ℕ
+lags p q k =
+    square (lag (p .x) (k .x) (q .x) (k .t - p .t) (q .t - p .t)) + square (lag (p .y) (k .y) (q .y) (k .t - p .t) (q .t - p .t))
+
+abbrev pub lags-at : List Point → ℕ → ℕ → ℕ → ℕ
+lags-at ps i j k = lags (numbered ps i) (numbered ps j) (numbered ps k)
+
+abbrev pub all-lags : List Point → ℕ → ℕ → ℕ
+all-lags ps i j = sum-between i j (lags-at ps i j)
+
+abbrev pub synchronous-error : List Point → ℕ → ℕ → ℕ
+synchronous-error ps i j = rounded-up (all-lags ps i j) (lasting ps i j * lasting ps i j)
+
+abbrev pub synchronous : Meaning
+synchronous = bare synchronous-error
+
+abbrev pub Enough : List Point → ℕ → ℕ → ℕ → Type 0
+Enough ps i j e = all-lags ps i j ≤ e * (lasting ps i j * lasting ps i j)
+
+abbrev pub Least-synchronous : Type 0
+Least-synchronous = (ps : List Point) (i j e : ℕ) → Lawful ps → synchronous ps i j ≡ Some e → Least (Enough ps i j) e
