@@ -16,7 +16,7 @@ use Rattle.tray.specs.Stroke.{numbered, Lawful}
 use Rattle.total.specs.Laws.{limit}
 use Rattle.measure.specs.Chords.{Placed, On, Chord, lasting}
 use Rattle.measure.specs.Between.{gathered}
-use Rattle.measure.specs.Synchronous.{lag, lags, lags-at, all-lags, synchronous-error, Least-synchronous}
+use Rattle.measure.specs.Synchronous.{lag, lags, lags-at, all-lags, synchronous-error, synchronous, Least-synchronous}
 use Rattle.measure.proofs.Ints.{fits32, square-small, widened}
 use Rattle.measure.proofs.Runs.{sum-small}
 use Rattle.measure.proofs.Rounded.{rounded-least, rounded-serves}
@@ -95,8 +95,8 @@ module _ (ps : List Point) (i j : ℕ) (l : Lawful ps) (c : Chord ps i j) where
   lags-sum-small n h =
       sum-small (lags-at ps i j) (i + 1) n (134184962 * (lasting ps i j * lasting ps i j))
       (λ m p q.
-        lags-small (numbered ps i) (numbered ps j) (numbered ps m) (on ps i l (omega arith) (omega arith)) (on ps j l (omega arith) (omega arith)) (on ps m l (omega arith) (omega arith))
-        (omega (arith, later ps m j l (omega arith) (omega arith) (omega arith))))
+      lags-small (numbered ps i) (numbered ps j) (numbered ps m) (on ps i l (omega arith) (omega arith)) (on ps j l (omega arith) (omega arith)) (on ps m l (omega arith) (omega arith))
+      (omega (arith, later ps m j l (omega arith) (omega arith) (omega arith))))
 
   pub lags-sum-fits : (n : ℕ) → n ≤ j - (i + 1) → gathered _+_ 0 (lags-at ps i j) (i + 1) n < 2 ^ 63
   lags-sum-fits n h =
@@ -120,12 +120,12 @@ module _ (ps : List Point) (i j : ℕ) (l : Lawful ps) (c : Chord ps i j) where
       let b : all-lags ps i j ≤ 68434330620 * (w * w) = omega (arith, many, lags-sum-small (j - (i + 1)) (omega arith)) in
       omega (arith, rounded-least (all-lags ps i j) (w * w) 68434330620 some-time b)
 
-pub least-synchronous : Least-synchronous
-least-synchronous ps i j e l q =
+pub least-synchronous : (ps : List Point) (i j : ℕ) → Lawful ps → Least-synchronous ps i j (synchronous ps i j)
+least-synchronous ps i j l e q =
     let a = answered synchronous-error ps i j e q in
     let w = lasting ps i j * lasting ps i j in
     let some = some-time ps i j l (a .0) in
     record {
-      serves = let s = rounded-serves (all-lags ps i j) w some in subst (λ (n : ℕ). all-lags ps i j ≤ n * w) (a .1) s;
-      below-none = λ f h. omega (arith, a .1, rounded-least (all-lags ps i j) w f some h)
+      serves = subst (λ (n : ℕ). all-lags ps i j ≤ n * w) (a .1) (rounded-serves (all-lags ps i j) w some);
+      below-none = λ f h. omega (arith, a .1, rounded-least (all-lags ps i j) w f some h);
     }

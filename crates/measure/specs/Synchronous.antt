@@ -6,17 +6,16 @@
 --   Enough ps i j e  the sum is at most e times that square
 --   Least-synchronous   an answered error is the least whole number that is enough
 use Prim.Native.Nat.{ℕ, _+_, _-_, _*_, _≤_}
-use mathlib.Core.Path.{_≡_}
 use mathlib.Core.List.{List}
 use lib.IntN.{ℤ, pos, _-ℤ_, _*ℤ_}
-use Rattle.std.specs.declared.option.Option.the-variants.{Some}
+use Rattle.std.specs.declared.option.Option.{Option}
 use Rattle.tray.specs.declared.point.Point.{Point}
-use Rattle.tray.specs.Stroke.{numbered, Lawful}
+use Rattle.tray.specs.Stroke.{numbered}
 use Rattle.tray.specs.Reductions.{Meaning}
 use Rattle.measure.specs.Chords.{lasting, bare}
 use Rattle.measure.specs.Between.{sum-between}
 use Rattle.measure.specs.Steps.{square, rounded-up}
-use Rattle.measure.specs.Least.{Least}
+use Rattle.measure.specs.Least.{Answers-least}
 
 abbrev pub lag : ℤ → ℤ → ℤ → ℕ → ℕ → ℤ
 lag from at to part whole = (at -ℤ from) *ℤ pos whole -ℤ pos part *ℤ (to -ℤ from)
@@ -40,5 +39,5 @@ synchronous = bare synchronous-error
 abbrev pub Enough : List Point → ℕ → ℕ → ℕ → Type 0
 Enough ps i j e = all-lags ps i j ≤ e * (lasting ps i j * lasting ps i j)
 
-abbrev pub Least-synchronous : Type 0
-Least-synchronous = (ps : List Point) (i j e : ℕ) → Lawful ps → synchronous ps i j ≡ Some e → Least (Enough ps i j) e
+abbrev pub Least-synchronous : List Point → ℕ → ℕ → Option ℕ → Type 0
+Least-synchronous ps i j o = Answers-least (Enough ps i j) o

@@ -3,9 +3,10 @@ ghost use mathlib.Core.Path.{_≡_};
 ghost use Prim.Native.Nat.{_+_, _*_, _<_, _≤_};
 ghost use lib.IntN.{natAbs};
 ghost use Rattle.tray.specs.Stroke.{Lawful};
+ghost use Rattle.tray.specs.Trays.{stroke as stroke-of};
 ghost use Rattle.measure.specs.Chords.{Placed, On, Chord};
 ghost use Rattle.measure.specs.Steps.{square};
-ghost use Rattle.measure.specs.Synchronous.{lag, lags, synchronous, synchronous-error};
+ghost use Rattle.measure.specs.Synchronous.{lag, lags, synchronous, synchronous-error, Least-synchronous};
 use crate::arith::product;
 use crate::arith::step;
 use crate::chord::is_chord;
@@ -88,7 +89,11 @@ fn synchronous_of(points: &[Point], i: usize, j: usize) -> u64
 pub impl Measure for Synchronous as SynchronousMeasure {
     ghost meaning = { λ _. synchronous };
 
-    fn error(&self, stroke: &Lifted, i: usize, j: usize) -> Option<u64> {
+    // An answered error is the least whole number E for which the sum of the squares is at most E times the square of the time.
+    fn error(&self, stroke: &Lifted, i: usize, j: usize) -> Option<u64>
+        ensures value { λ r. ⌜ r ≡ synchronous (stroke-of (now (stroke .entry))) i j ⌝ }
+        ensures least { λ r. ⌜ Least-synchronous (stroke-of (now (stroke .entry))) i j r ⌝ }
+    {
         let points = stroke.points();
         if is_chord(points, i, j) {
             Some(synchronous_of(points, i, j))

@@ -26,7 +26,7 @@ lags-of-sum-requires c κs =
       k = on-as _ _ e (on ps (i + 1 + n) l (omega arith) (omega arith));
       after = omega (arith, t, later ps i (i + 1 + n) l (omega arith) (omega arith) (omega arith));
       before = omega (arith, t, later ps (i + 1 + n) j l (omega arith) (omega arith) (omega arith));
-      brief = brief ps i j l (omega arith) (omega arith) (omega arith)
+      brief = brief ps i j l (omega arith) (omega arith) (omega arith);
     }
 
 -- the sum with one more point
