@@ -5,3 +5,5 @@ pub mod Answered
 pub mod Swept
 pub mod Rounded
 pub mod Lags
+pub mod Offs
+pub mod Heights

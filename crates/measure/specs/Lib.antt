@@ -5,3 +5,5 @@ pub mod Least
 pub mod Area
 pub mod Layers
 pub mod Synchronous
+pub mod Distance
+pub mod Sides
