@@ -1,9 +1,9 @@
 pub mod Ints
 pub mod Runs
 pub mod Points
-pub mod Answered
-pub mod Swept
 pub mod Rounded
+pub mod Answered
 pub mod Lags
 pub mod Offs
 pub mod Heights
+pub mod Swept

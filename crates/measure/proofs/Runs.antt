@@ -13,7 +13,6 @@ use borrow.Author.Differences.{ints}
 use Rattle.std.proofs.shelf.Tests.{cases-lt, or-left, or-right}
 use Rattle.tray.specs.declared.point.Point.{Point}
 use Rattle.tray.specs.Stroke.{at, numbered, origin}
-use Rattle.measure.specs.Chords.{Chord}
 use Rattle.measure.specs.Between.{gathered}
 
 pub one-more : {A : Type 0} (g : A → A → A) (z : A) (f : ℕ → A) (a n : ℕ) → gathered g z f a (n + 1) ≡ g (gathered g z f a n) (f (a + n))
@@ -58,22 +57,16 @@ some-found f a (suc n) k q h =
     (λ g. let e : n ≡ k = omega arith in or-right (gathered _||_ false f a n) (f (a + n)) (ap (λ (m : ℕ). f (a + m)) e ∙ h))
     (cases-lt k n)
 
--- ---- the points strictly between i and j, as the loops go over them
+-- ---- the m points after the point a, as a loop over a part of the stroke meets them
 
-abbrev pub part : List Point → ℕ → ℕ → List Point
-part ps i j = take (j - 1 - i) (drop i ps)
+module _ (ps : List Point) (a m n : ℕ) where
+  pub part-inside : n < length (take m (drop a ps)) → n < m
+  part-inside h = omega (arith, length-take m (drop a ps))
 
-module _ (ps : List Point) (i j n : ℕ) (c : Chord ps i j) where
-  part-length : length (part ps i j) ≡ j - (i + 1)
-  part-length = simp (length-take, length-drop) (omega arith)
+  pub part-end : a + m ≤ length ps → n ≤ length (take m (drop a ps)) → length (take m (drop a ps)) ≤ n → n ≡ m
+  part-end h k l = omega (arith, length-take m (drop a ps), length-drop a ps)
 
-  pub part-inside : n < length (part ps i j) → n < j - (i + 1)
-  part-inside h = omega (arith, part-length)
-
-  pub part-end : n ≤ length (part ps i j) → length (part ps i j) ≤ n → n ≡ j - (i + 1)
-  part-end h k = omega (arith, part-length)
-
-  pub part-at : n < length (part ps i j) → at (part ps i j) n ≡ numbered ps (i + 1 + n)
+  pub part-at : n < m → at (take m (drop a ps)) n ≡ numbered ps (a + 1 + n)
   part-at h =
-      let e : i + n ≡ i + 1 + n - 1 = omega arith in
-      getD-take (j - 1 - i) (drop i ps) n origin (omega (arith, part-inside h)) ∙ (getD-drop i ps n origin ∙ ap (at ps) e)
+      let e : a + n ≡ a + 1 + n - 1 = omega arith in
+      getD-take m (drop a ps) n origin h ∙ (getD-drop a ps n origin ∙ ap (at ps) e)

@@ -2,8 +2,9 @@ pub mod Chords
 pub mod Between
 pub mod Steps
 pub mod Least
-pub mod Area
-pub mod Layers
 pub mod Synchronous
 pub mod Distance
 pub mod Sides
+pub mod Area
+pub mod Layers
+pub mod Worked

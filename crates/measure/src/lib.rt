@@ -7,3 +7,4 @@ pub mod distance;
 pub mod measure;
 pub mod span;
 pub mod synchronous;
+pub mod worked;

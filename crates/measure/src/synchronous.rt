@@ -5,7 +5,7 @@ ghost use lib.IntN.{natAbs};
 ghost use Rattle.tray.specs.Stroke.{Lawful};
 ghost use Rattle.tray.specs.Trays.{stroke as stroke-of};
 ghost use Rattle.measure.specs.Chords.{Placed, On, Chord};
-ghost use Rattle.measure.specs.Steps.{square};
+ghost use Rattle.measure.specs.Steps.{square, rounded-up};
 ghost use Rattle.measure.specs.Synchronous.{lag, lags, synchronous, synchronous-error, Least-synchronous};
 use crate::arith::product;
 use crate::arith::step;
@@ -70,6 +70,15 @@ fn lags_of(p: Point, q: Point, k: Point) -> u64
     a + b
 }
 
+// A sum over the square of a time, rounded up.
+fn over_square(sum: u64, whole: u32) -> u64
+    requires { ⌜ 0 < whole * whole ⌝ }
+    ensures { λ r. ⌜ r ≡ rounded-up sum (whole * whole) ⌝ }
+{
+    let w = whole as u64;
+    sum.div_ceil(w * w)
+}
+
 // The sum of the squares of the lags over the square of the time from i to j, rounded up.
 fn synchronous_of(points: &[Point], i: usize, j: usize) -> u64
     requires lawful { ⌜ Lawful (now points) ⌝ }
@@ -82,8 +91,7 @@ fn synchronous_of(points: &[Point], i: usize, j: usize) -> u64
     for k in &points[i..j - 1] {
         sum += lags_of(p, q, *k);
     }
-    let whole = (q.t - p.t) as u64;
-    sum.div_ceil(whole * whole)
+    over_square(sum, q.t - p.t)
 }
 
 pub impl Measure for Synchronous as SynchronousMeasure {

@@ -17,11 +17,11 @@ side-of-requires c κs =
     let j = c .args .j in
     let n = c .loop-k .k-index in
     let l = c .pre .lawful in
-    let h = part-inside ps i j n (c .pre .chord) (c .loop-k-test .taken) in
+    let m = part-inside ps i (j - 1 - i) n (c .loop-k-test .taken) in
     record {
       p = on ps i l (omega arith) (omega arith);
       q = on ps j l (omega arith) (omega arith);
-      k = on-as _ _ (part-at ps i j n (c .pre .chord) (c .loop-k-test .taken)) (on ps (i + 1 + n) l (omega arith) (omega arith));
+      k = on-as _ _ (part-at ps i (j - 1 - i) n m) (on ps (i + 1 + n) l (omega arith) (omega arith));
     }
 
 pub loop-k-again : need.loop-k-again
@@ -32,7 +32,7 @@ loop-k-again c =
     let n = c .loop-k .k-index in
     let e = one-more max 0 (past-at ps i j) (i + 1) n in
     let f = one-more max 0 (along-at ps i j) (i + 1) n in
-    let t = c .side-of .ensures ∙ ap (sided (numbered ps i) (numbered ps j)) (part-at ps i j n (c .pre .chord) (c .loop-k-test .taken)) in
+    let t = c .side-of .ensures ∙ ap (sided (numbered ps i) (numbered ps j)) (part-at ps i (j - 1 - i) n (part-inside ps i (j - 1 - i) n (c .loop-k-test .taken))) in
     let g : past (c .side-of .result) ≡ past-at ps i j (i + 1 + n) = ap past t in
     let h : along (c .side-of .result) ≡ along-at ps i j (i + 1 + n) = ap along t in
     let m = c .loop-k .inv in
@@ -53,18 +53,20 @@ settled-requires c κs =
     let ps = c .args .points .now in
     let i = c .args .i in
     let j = c .args .j in
-    let b = part-end ps i j (c .loop-k .k-index) (c .pre .chord) (c .loop-k .kept .k-index-end) (c .loop-k-test .left) in
-    let n : c .loop-k .along ≡ most-along ps i j (j - (i + 1)) = c .loop-k .inv .1 ∙ ap (most-along ps i j) b in
+    let n = c .loop-k .k-index in
+    let m : n ≡ j - (i + 1) = omega (arith, part-end ps i (j - 1 - i) n (omega arith) (c .loop-k .kept .k-index-end) (c .loop-k-test .left)) in
+    let a = c .loop-k .inv .1 ∙ ap (most-along ps i j) m in
     let w = stripped _ _ _ (c .dot-of .ensures .small) (c .unsigned-abs .ensures .value) (c .dot-of .ensures .value) in
-    omega (arith, n, some, w, alongs-small ps i j (c .pre .lawful) (c .pre .chord))
+    omega (arith, a, some, w, alongs-small ps i j (c .pre .lawful) (c .pre .chord))
 
 pub returns : need.returns
 returns c =
     let ps = c .args .points .now in
     let i = c .args .i in
     let j = c .args .j in
-    let b = part-end ps i j (c .loop-k .k-index) (c .pre .chord) (c .loop-k .kept .k-index-end) (c .loop-k-test .left) in
-    let m = c .loop-k .inv .0 ∙ ap (most-past ps i j) b in
-    let n = c .loop-k .inv .1 ∙ ap (most-along ps i j) b in
+    let n = c .loop-k .k-index in
+    let m : n ≡ j - (i + 1) = omega (arith, part-end ps i (j - 1 - i) n (omega arith) (c .loop-k .kept .k-index-end) (c .loop-k-test .left)) in
+    let p = c .loop-k .inv .0 ∙ ap (most-past ps i j) m in
+    let a = c .loop-k .inv .1 ∙ ap (most-along ps i j) m in
     let w = stripped _ _ _ (c .dot-of .ensures .small) (c .unsigned-abs .ensures .value) (c .dot-of .ensures .value) in
-    joined _ _ _ _ _ _ _ _ (c .settled .ensures) m n w (distance-is ps i j (c .pre .lawful) (c .pre .chord))
+    joined _ _ _ _ _ _ _ _ (c .settled .ensures) p a w (distance-is ps i j (c .pre .lawful) (c .pre .chord))

@@ -2,10 +2,10 @@ use Prim.Native.Nat.{_+_, _-_, _≤_, _<_}
 use mathlib.Core.Path.{_≡_, sym, ap, _∙_}
 use native.Mathlib.Omega.{arith}
 use Rattle.tray.specs.declared.point.Point.{Point}
-use Rattle.tray.specs.Stroke.{at, numbered}
+use Rattle.tray.specs.Stroke.{numbered}
 use Rattle.measure.specs.Between.{gathered}
 use Rattle.measure.specs.Synchronous.{lags, lags-at}
-use Rattle.measure.proofs.Runs.{one-more, part, part-inside, part-at}
+use Rattle.measure.proofs.Runs.{one-more, part-inside, part-at}
 use Rattle.measure.proofs.Points.{on, on-as, later, brief}
 use Rattle.measure.proofs.Lags.{lags-sum-fits, some-time}
 use Rattle.measure.proofs.synchronous.synchronous_of.Needs as need
@@ -17,9 +17,9 @@ lags-of-sum-requires c κs =
     let j = c .args .j in
     let n = c .loop-k .k-index in
     let l = c .pre .lawful in
-    let e = part-at ps i j n (c .pre .chord) (c .loop-k-test .taken) in
-    let t : at (part ps i j) n .t ≡ numbered ps (i + 1 + n) .t = ap (λ (p : Point). p .t) e in
-    let m : n < j - (i + 1) = part-inside ps i j n (c .pre .chord) (c .loop-k-test .taken) in
+    let m = part-inside ps i (j - 1 - i) n (c .loop-k-test .taken) in
+    let e = part-at ps i (j - 1 - i) n m in
+    let t = ap (λ (p : Point). p .t) e in
     record {
       p = on ps i l (omega arith) (omega arith);
       q = on ps j l (omega arith) (omega arith);
@@ -37,21 +37,23 @@ next c =
     let j = c .args .j in
     let n = c .loop-k .k-index in
     let e = one-more _+_ 0 (lags-at ps i j) (i + 1) n in
-    let f = ap (lags (numbered ps i) (numbered ps j)) (part-at ps i j n (c .pre .chord) (c .loop-k-test .taken)) in
+    let f = ap (lags (numbered ps i) (numbered ps j)) (part-at ps i (j - 1 - i) n (part-inside ps i (j - 1 - i) n (c .loop-k-test .taken))) in
     cc (e, f, c .loop-k .inv, c .lags-of-sum .ensures)
 
 pub add-sum : need.add-sum
 add-sum c =
     let ps = c .args .points .now in
+    let i = c .args .i in
+    let j = c .args .j in
     let n = c .loop-k .k-index in
-    let h = part-inside ps (c .args .i) (c .args .j) n (c .pre .chord) (c .loop-k-test .taken) in
-    record { fits = omega (arith, next c, lags-sum-fits ps (c .args .i) (c .args .j) (c .pre .lawful) (c .pre .chord) (n + 1) (omega arith)) }
+    let m = part-inside ps i (j - 1 - i) n (c .loop-k-test .taken) in
+    record { fits = omega (arith, next c, lags-sum-fits ps i j (c .pre .lawful) (c .pre .chord) (n + 1) (omega arith)) }
 
 pub loop-k-again : need.loop-k-again
 loop-k-again c = next c
 
-pub sub-whole : need.sub-whole
-sub-whole c = omega (arith, later (c .args .points .now) (c .args .i) (c .args .j) (c .pre .lawful) (omega arith) (omega arith) (omega arith))
+pub sub-q-2 : need.sub-q-2
+sub-q-2 c = omega (arith, later (c .args .points .now) (c .args .i) (c .args .j) (c .pre .lawful) (omega arith) (omega arith) (omega arith))
 
-pub div-ceil-requires : need.div-ceil-requires
-div-ceil-requires c κs = some-time (c .args .points .now) (c .args .i) (c .args .j) (c .pre .lawful) (c .pre .chord)
+pub over-square-requires : need.over-square-requires
+over-square-requires c κs = some-time (c .args .points .now) (c .args .i) (c .args .j) (c .pre .lawful) (c .pre .chord)
