@@ -80,7 +80,8 @@ impl Lifted {
     pub fn clear(self) -> Writing
         ensures steps { λ r. ⌜ writing r ≡ step (lifted self) calls-clear ⌝ }
     {
-        Writing::new()
+        let blank = Table::new();
+        Writing { table: blank }
     }
 
     // The points of the stroke, in their order.
