@@ -1,0 +1,9 @@
+pub mod Little
+pub mod Faults
+pub mod Records
+pub mod Strokes
+pub mod Fits
+pub mod Steps
+pub mod Causes
+pub mod Walks
+pub mod Writes
