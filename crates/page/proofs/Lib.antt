@@ -3,3 +3,4 @@ pub mod Digits
 pub mod Fronts
 pub mod Framing
 pub mod Stepping
+pub mod Putting

@@ -15,6 +15,7 @@ use Rattle.page.specs.declared.kinds.Step.{Step}
 use Rattle.page.specs.declared.kinds.Step.the-variants.{Begin, Point as Next, Finish, End}
 use Rattle.page.specs.Faults.{toldAt}
 use Rattle.page.specs.Records.{Rec, sizeOf, Front, bad, one, front}
+use Rattle.page.specs.Strokes.{strokeOf}
 use Rattle.page.specs.Steps.{meant, partAfter, Stepped, stays, passes, atEnd, atFront, stepped, State, outside, inside, stateOf, partOf, Reading, onward, after, readBy, readFrom}
 use Rattle.page.specs.Walks.{Falls}
 use Rattle.page.proofs.Framing.{never, front-less}
@@ -44,7 +45,7 @@ same-onward s f g new old (Ok (Begin n)) l h = h l (inside n [])
 same-onward (outside) f g new old (Ok (Next p)) l h = h l outside
 same-onward (inside n ps) f g new old (Ok (Next p)) l h = h l (inside n (ps ++ p ∷ []))
 same-onward outside f g new old (Ok (Finish o)) l h = h l outside
-same-onward (inside n ps) f g new old (Ok (Finish o)) l h = ap (λ r. record { strokes = record { number = n; points = ps; order = o } ∷ r .strokes; ending = r .ending }) (h l outside)
+same-onward (inside n ps) f g new old (Ok (Finish o)) l h = ap (λ r. record { strokes = strokeOf n ps o ∷ r .strokes; ending = r .ending }) (h l outside)
 same-onward s f g new old (Ok End) l h = refl
 same-onward s f g new old (Err t) l h = refl
 

@@ -6,4 +6,6 @@ pub mod Fits
 pub mod Steps
 pub mod Causes
 pub mod Walks
+pub mod Answers
 pub mod Writes
+pub mod Appends

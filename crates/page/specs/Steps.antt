@@ -31,7 +31,7 @@ use Rattle.page.specs.declared.kinds.Step.the-variants.{Begin, Point as Next, 
 use Rattle.page.specs.Little.{unle}
 use Rattle.page.specs.Faults.{toldAt}
 use Rattle.page.specs.Records.{Rec, startRec, plainRec, cornerRec, orderRec, sizeOf, Front, bad, one, front}
-use Rattle.page.specs.Strokes.{Stroke, pointOf, orderOf, codes}
+use Rattle.page.specs.Strokes.{Stroke, strokeOf, pointOf, orderOf, codes}
 
 abbrev pub meant : ℕ → Part → Rec → Result Step Told
 meant place Outside (startRec p) = Ok (Begin (unle p))
@@ -102,7 +102,7 @@ pointed (inside n ps) p = inside n (ps ++ p ∷ [])
 -- the open stroke, closed by its order, before what is read then
 abbrev pub closed : State → Order → Reading → Reading
 closed outside o r = r
-closed (inside n ps) o r = record { strokes = record { number = n; points = ps; order = o } ∷ r .strokes; ending = r .ending }
+closed (inside n ps) o r = record { strokes = strokeOf n ps o ∷ r .strokes; ending = r .ending }
 
 abbrev pub onward : State → (State → Reading) → Result Step Told → Reading
 onward s go (Ok (Begin n)) = go (inside n [])

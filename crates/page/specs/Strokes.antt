@@ -1,5 +1,6 @@
 -- Strokes and their bytes: start, points, order.
 --   Stroke         a stroke's number, its points and its order
+--   strokeOf       the stroke of a number, points and an order
 --   startBytes     the start record of a stroke number
 --   markKind       the kind of a point's record
 --   pointPayload   x and y in two bytes each, two's complement, and t in four
@@ -31,6 +32,9 @@ pub record Stroke : Type 0 where
   pub number : ℕ
   pub points : List Point
   pub order : Order
+
+abbrev pub strokeOf : ℕ → List Point → Order → Stroke
+strokeOf n ps o = record { number = n; points = ps; order = o }
 
 abbrev pub startBytes : ℕ → List ℕ
 startBytes n = recordBytes 1 (le 4 n)

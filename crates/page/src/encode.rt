@@ -1,8 +1,12 @@
 // Records as bytes, and bytes put into a page.
 ghost use mathlib.Core.Path.{_≡_};
-ghost use Prim.Native.Nat.{ℕ, _+_, _≤_};
+ghost use mathlib.Core.List.{_++_};
+ghost use Prim.Native.Nat.{ℕ, _+_, _*_, _<_, _≤_};
+ghost use lib.Dec.{leb};
 ghost use lib.ListN.{length};
 ghost use Rattle.page.specs.Strokes.{startBytes, pointBytes, orderBytes};
+ghost use Rattle.page.specs.Little.{le};
+ghost use Rattle.page.specs.Answers.{refusedBytes};
 ghost use Rattle.page.specs.Fits.{PointFits};
 ghost use Rattle.page.specs.Writes.{written};
 use crate::kinds::Mark;
@@ -55,6 +59,49 @@ pub(crate) fn order_record(o: Order) -> [u8; 18]
         g,
         h,
     ]
+}
+
+// The front of a record of `count` kept points, up to the stroke number.
+pub(crate) fn kept_start(number: u32, count: usize) -> [u8; 8]
+    requires { ⌜ 20 + 2 * count < 65536 ⌝ }
+    ensures { λ r. ⌜ r ≡ le 2 (20 + 2 * count) ++ (le 2 5 ++ le 4 number) ⌝ }
+{
+    let size = 20 + 2 * count as u16;
+    let [s0, s1] = size.to_le_bytes();
+    let [a, b, c, d] = number.to_le_bytes();
+    [s0, s1, 5, 0, a, b, c, d]
+}
+
+pub(crate) fn total_field(n: u64) -> [u8; 8]
+    ensures { λ r. ⌜ r ≡ le 8 n ⌝ }
+{
+    n.to_le_bytes()
+}
+
+pub(crate) fn kept_number(n: u16) -> [u8; 2]
+    ensures { λ r. ⌜ r ≡ le 2 n ⌝ }
+{
+    n.to_le_bytes()
+}
+
+pub(crate) fn refused_record(number: u32, refusal: u16, place: u16) -> [u8; 12]
+    ensures { λ r. ⌜ r ≡ refusedBytes number refusal place ⌝ }
+{
+    let [a, b, c, d] = number.to_le_bytes();
+    let [r0, r1] = refusal.to_le_bytes();
+    let [p0, p1] = place.to_le_bytes();
+    [8, 0, 6, 0, a, b, c, d, r0, r1, p0, p1]
+}
+
+// Whether `front` bytes and `count` times `each` fit into `len` behind those used.
+pub(crate) fn has_room(len: usize, used: usize, front: usize, each: usize, count: usize) -> bool
+    requires { ⌜ 0 < each ⌝ }
+    ensures { λ r. ⌜ r ≡ leb (used + (front + each * count)) len ⌝ }
+{
+    if len < used || len - used < front {
+        return false;
+    }
+    count <= (len - used - front) / each
 }
 
 // Puts bytes into the page.

@@ -6,3 +6,4 @@ pub mod kinds;
 mod record;
 mod steps;
 pub mod walk;
+pub mod writer;
