@@ -6,14 +6,13 @@
 --   appendsStroke    a stroke is appended whole, if its codes are known
 --   appendsKept      a record of kept points is appended; no page has room for one whose length its field cannot say
 --   appendsRefused   a record of a refusal is appended
---   OneMore          strokes on the bytes used before read back, and then the one that was appended
+--   OneMore          where the bytes used before read as strokes, those used now read as these and one more
 use mathlib.Core.Path.{_≡_}
 use mathlib.Core.Bool.{cond}
 use mathlib.Core.List.{List, [], _∷_, _++_}
 use Prim.Native.Nat.{ℕ, _+_}
 use lib.Dec.{leb}
 use lib.ListN.{length, take}
-use Rattle.std.specs.shelf.Lists.{All}
 use Rattle.std.specs.declared.result.Result.{Result}
 use Rattle.std.specs.declared.result.Result.the-variants.{Ok, Err}
 use Rattle.refusal.specs.declared.Told.{Told}
@@ -23,9 +22,8 @@ use Rattle.page.specs.declared.fault.PageCause.the-variants.{WrongCode, ShortP
 use Rattle.page.specs.declared.fault.PageFault.{PageFault}
 use Rattle.page.specs.declared.kinds.Totals.{Totals}
 use Rattle.page.specs.Faults.{toldAt, told}
-use Rattle.page.specs.Strokes.{Stroke, strokeBytes, pageBytes, codes}
+use Rattle.page.specs.Strokes.{Stroke, strokeBytes, codes}
 use Rattle.page.specs.Answers.{keptBytes, keptFits, refusedBytes}
-use Rattle.page.specs.Fits.{StrokeFits}
 use Rattle.page.specs.Steps.{accepted, reading}
 use Rattle.page.specs.Writes.{written}
 
@@ -55,6 +53,6 @@ appendsKept used page n t ks = cond (keptFits n t ks) (appends used page (keptBy
 abbrev pub appendsRefused : ℕ → List ℕ → ℕ → ℕ → ℕ → Outcome
 appendsRefused used page n c p = appends used page (refusedBytes n c p)
 
-abbrev pub OneMore : ℕ → List ℕ → Stroke → List ℕ → ℕ → Type 0
-OneMore used before s after n =
-    (ss : List Stroke) → All StrokeFits ss → take used before ≡ pageBytes ss → reading (take n after) ≡ record { strokes = ss ++ s ∷ []; ending = accepted }
+abbrev pub OneMore : ℕ → List ℕ → Stroke → ℕ → List ℕ → Type 0
+OneMore used before s n after =
+    (ss : List Stroke) → reading (take used before) ≡ record { strokes = ss; ending = accepted } → reading (take n after) ≡ record { strokes = ss ++ s ∷ []; ending = accepted }

@@ -7,7 +7,8 @@
 --   openBytes, OpenFits the records of the open stroke so far, and that they fit
 --   RefusedFirst        whole strokes and an open one stand before the place, and there the cause told stops the reading
 --   Verdict bs ss e     what is right to say of the page bs: it is the bytes of the strokes ss, or is refused after them
---   Judged              every page is read as is right
+--   Judged bs           the page bs is read as is right
+--   Alone bs            nothing else is right to say of it
 use mathlib.Core.Path.{_≡_}
 use mathlib.Core.Logic.{_⊎_}
 use mathlib.Core.List.{List, [], _∷_, _++_}
@@ -23,7 +24,7 @@ use Rattle.page.specs.declared.kinds.Part.the-variants.{Outside, Inside}
 use Rattle.page.specs.Little.{unle}
 use Rattle.page.specs.Faults.{numberOf, toldAt}
 use Rattle.page.specs.Strokes.{Stroke, startBytes, pointBytes, pageBytes}
-use Rattle.page.specs.Fits.{Byte, PointFits, StrokeFits}
+use Rattle.page.specs.Fits.{PointFits, StrokeFits}
 use Rattle.page.specs.Steps.{State, outside, inside, partOf, Ending, accepted, refusedBy, reading}
 
 abbrev pub lengthAt : List ℕ → ℕ
@@ -81,5 +82,8 @@ abbrev pub Verdict : List ℕ → List Stroke → Ending → Type 0
 Verdict bs ss accepted = (bs ≡ pageBytes ss) × All StrokeFits ss
 Verdict bs ss (refusedBy t) = RefusedFirst bs ss t
 
-abbrev pub Judged : Type 0
-Judged = (bs : List ℕ) → All Byte bs → Verdict bs (reading bs .strokes) (reading bs .ending)
+abbrev pub Judged : List ℕ → Type 0
+Judged bs = Verdict bs (reading bs .strokes) (reading bs .ending)
+
+abbrev pub Alone : List ℕ → Type 0
+Alone bs = (ss : List Stroke) (e : Ending) → Verdict bs ss e → reading bs ≡ record { strokes = ss; ending = e }

@@ -5,6 +5,7 @@ pub mod Strokes
 pub mod Fits
 pub mod Steps
 pub mod Causes
+pub mod Laws
 pub mod Walks
 pub mod Answers
 pub mod Writes

@@ -1,7 +1,7 @@
 // A page walked from its front, a record a step.
 ghost use mathlib.Core.Path.{_≡_};
 ghost use mathlib.Core.List.{List};
-ghost use Prim.Native.Nat.{ℕ};
+ghost use Prim.Native.Nat.{ℕ, _+_, _<_, _^_};
 ghost use lib.ListN.{length};
 ghost use Rattle.std.specs.Vec.{refused};
 ghost use Rattle.refusal.specs.Said.{said};
@@ -9,6 +9,8 @@ ghost use Rattle.page.specs.declared.kinds.Point.{Point};
 ghost use Rattle.page.specs.Faults.{told, stepTold, OfPage};
 ghost use Rattle.page.specs.Records.{payload, sizeOf};
 ghost use Rattle.page.specs.Steps.{meant, partAfter, atEnd, stepped, stateOf, after, readFrom};
+ghost use Rattle.page.specs.Causes.{Judged, Alone};
+ghost use Rattle.page.specs.Laws.{Accepted-stays};
 ghost use Rattle.page.specs.Walks.{recOf, seen, Falls};
 use crate::decode;
 use crate::fault::PageCause;
@@ -81,18 +83,27 @@ fn part_after(step: Step) -> Part
     }
 }
 
+// A walk that stands at a place, with these bytes left.
+fn standing<'a>(rest: &'a [u8], place: usize, part: Part) -> Walk<'a>
+    requires { ⌜ place + length (now rest) < 2 ^ 64 ⌝ }
+    ensures rest { λ r. ⌜ r .rest .now ≡ now (rest .entry) ⌝ }
+    ensures place { λ r. ⌜ r .place ≡ place ⌝ }
+    ensures part { λ r. ⌜ r .part ≡ part ⌝ }
+{
+    Walk { rest, place, part }
+}
+
 impl<'a> Walk<'a> {
     // From the front of a page, between strokes.
     pub fn new(page: &'a [u8]) -> Walk<'a>
         ensures rest { λ r. ⌜ r .rest .now ≡ now (page .entry) ⌝ }
         ensures place { λ r. ⌜ r .place ≡ 0 ⌝ }
         ensures part { λ r. ⌜ r .part ≡ Part.Outside ⌝ }
+        ensures judged { λ _. ⌜ Judged (now (page .entry)) ⌝ }
+        ensures alone { λ _. ⌜ Alone (now (page .entry)) ⌝ }
+        ensures again { λ _. ⌜ Accepted-stays (now (page .entry)) ⌝ }
     {
-        Walk {
-            rest: page,
-            place: 0,
-            part: Part::Outside,
-        }
+        standing(page, 0, Part::Outside)
     }
 
     // One record more, or the end of the page; a refused step moves nothing.
@@ -110,9 +121,11 @@ impl<'a> Walk<'a> {
         }
         let (placed, after) = first_record(self.rest, place)?;
         let step = meaning(placed, part)?;
-        self.place = place + (self.rest.len() - after.len());
-        self.rest = after;
-        self.part = part_after(step);
+        *self = standing(
+            after,
+            place + (self.rest.len() - after.len()),
+            part_after(step),
+        );
         Ok(step)
     }
 }

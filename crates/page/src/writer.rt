@@ -1,7 +1,9 @@
 // Strokes and answers appended to a page that is lent at each call.
 ghost use mathlib.Core.Path.{_≡_};
+ghost use Rattle.std.specs.Vec.{made};
 ghost use Rattle.page.specs.Strokes.{strokeOf};
-ghost use Rattle.page.specs.Appends.{outcome, appendsStroke, appendsKept, appendsRefused};
+ghost use Rattle.page.specs.Laws.{Written-reads-back};
+ghost use Rattle.page.specs.Appends.{outcome, appendsStroke, appendsKept, appendsRefused, OneMore};
 use crate::encode::has_room;
 use crate::encode::kept_number;
 use crate::encode::kept_start;
@@ -26,7 +28,8 @@ pub struct Writer {
 
 impl Writer {
     pub fn new() -> Writer
-        ensures { λ r. ⌜ r .used ≡ 0 ⌝ }
+        ensures used { λ r. ⌜ r .used ≡ 0 ⌝ }
+        ensures back { λ _. ⌜ Written-reads-back ⌝ }
     {
         Writer { used: 0 }
     }
@@ -40,6 +43,7 @@ impl Writer {
         order: Order,
     ) -> Result<usize, PageFault>
         ensures appends { λ r. ⌜ outcome r (now (self .exit) .used) (now (page .exit)) ≡ appendsStroke (now (self .entry) .used) (now (page .entry)) (strokeOf number (now (points .entry)) order) ⌝ }
+        ensures reads { λ r. ⌜ made r (λ n. OneMore (now (self .entry) .used) (now (page .entry)) (strokeOf number (now (points .entry)) order) n (now (page .exit))) ⌝ }
     {
         let used = self.used;
         if !has_codes(order) {

@@ -1,6 +1,6 @@
 use mathlib.Core.Path.{refl, sym, ap, subst, _≡_, _∙_}
 use mathlib.Core.List.{List}
-use Prim.Native.Nat.{ℕ, _+_, _-_, _<_}
+use Prim.Native.Nat.{ℕ, _+_, _<_}
 use native.Mathlib.Omega.{arith}
 use lib.ListN.{length}
 use borrow.Author.Needs.{needs}
@@ -73,8 +73,8 @@ meaning-requires c κs = taken (need.at·meaning-requires c .In-Continue-placed)
 pub sub-self : need.sub-self
 sub-self c = let t = taken (need.at·sub-self c .In-Continue-placed) in omega arith
 
-pub ghost-self : need.ghost-self
-ghost-self c = let t = taken (need.at·ghost-self c .In-Continue-placed) in (omega arith, tt)
+pub standing-requires : need.standing-requires
+standing-requires c κs = let t = taken (need.at·standing-requires c .In-Continue-placed) in omega arith
 
 pub returns : need.returns
 returns c =
@@ -82,7 +82,8 @@ returns c =
     let r : Rec = recOf (c .in-Continue-placed .placed .record) in
     let t = taken (need.at·returns c .In-Continue-placed) in
     let left : List ℕ = c .in-Continue-placed .after .now in
-    let next : w .place + (length (w .rest .now) - length left) ≡ w .place + (4 + sizeOf r) = omega arith in
+    let at = c .standing .ensures .place in
+    let next : c .standing .result .place ≡ w .place + (4 + sizeOf r) = omega arith in
     let says = sym (ap (λ q. meant q (w .part) r) (c .in-Continue-placed .ensures tt .place)) in
-    let s = ap (λ q. record { answer = Ok (c .in-Continue-step .step); place = w .place + (length (w .rest .now) - length left); part = q; rest = left }) (c .part-after-self .ensures) ∙ step-one (w .place) _ (w .part) (w .rest .now) r left (c .in-Continue-step .step) (sym (c .in-Continue-placed .ensures tt .front)) next (says ∙ sym (c .in-Continue-step .ensures tt)) in
+    let s = (λ i. record { answer = Ok (c .in-Continue-step .step); place = c .standing .result .place; part = (c .standing .ensures .part ∙ c .part-after .ensures) i; rest = c .standing .ensures .rest i }) ∙ step-one (w .place) (c .standing .result .place) (w .part) (w .rest .now) r left (c .in-Continue-step .step) (sym (c .in-Continue-placed .ensures tt .front)) next (says ∙ sym (c .in-Continue-step .ensures tt)) in
     record { steps = s; source = tt; reads = reads-on _ _ _ _ s; falls = falls-on _ _ _ _ s }
