@@ -1,0 +1,252 @@
+-- The record at the front of some bytes: when it is read, and why it is refused.
+use mathlib.Core.Path.{_≡_, refl, sym, ap, subst, _∙_}
+use mathlib.Core.Bool.{Bool, true, false, cond}
+use mathlib.Core.Logic.{_⊎_, inl, inr, ⊎-elim}
+use mathlib.Core.List.{List, [], _∷_, _++_, append-assoc}
+use Prim.Native.Nat.{ℕ, zero, suc, _+_, _*_, _/_, _%_, _≤_, _<_}
+use native.Mathlib.Omega.{arith}
+use lib.Dec.{eqb, ltb}
+use lib.ListN.{length, take, drop, take-append-drop, length-drop, length-append}
+use lib.Seq.{length-take-le}
+use Rattle.std.specs.shelf.Lists.{All}
+use Rattle.std.proofs.shelf.Tests.{eqb-true, eqb-false, ltb-true, ltb-false, le-ltb, cond-both, cond-false}
+use Rattle.std.proofs.shelf.Lists.{take-at, drop-at}
+use Rattle.std.proofs.shelf.Elements.{all-take, all-drop}
+use Rattle.page.specs.declared.fault.PageCause.{PageCause}
+use Rattle.page.specs.declared.fault.PageCause.the-variants.{CutRecord, StrangeKind, WrongLength, OutOfPlace, WrongCode, ShortPage}
+use Rattle.page.specs.declared.kinds.Part.{Part}
+use Rattle.page.specs.Little.{le, unle}
+use Rattle.page.specs.Faults.{numberOf}
+use Rattle.page.specs.Records.{Rec, startRec, plainRec, cornerRec, orderRec, kindOf, payload, sizeOf, frame, Front, bad, one, sized, kinded, front}
+use Rattle.page.specs.Fits.{Byte}
+use Rattle.page.specs.Causes.{lengthAt, kindAt, Long, Holds, Stops}
+
+-- A RECORD THAT IS READ
+
+-- what stands behind the length n and the kind k
+record Taken (n k : ℕ) (rest : List ℕ) (r : Rec) (left : List ℕ) : Type 0 where
+  pub payload : payload r ≡ take n rest
+  pub follows : left ≡ drop n rest
+  pub kind : k ≡ kindOf r
+  pub size : n ≡ sizeOf r
+
+pub never : {P : Type 0} {c : PageCause} {r : Rec} {left : List ℕ} → bad c ≡ one r left → P
+never e = let z : _≡_ {A = ℕ} 0 1 = cc in absurd (omega arith)
+
+sized-one : (n k size : ℕ) (s : Rec) (rest : List ℕ) (r : Rec) (left : List ℕ) → payload s ≡ take n rest → k ≡ kindOf s → size ≡ sizeOf s → sized n size s rest ≡ one r left → Taken n k rest r left
+sized-one n k size s rest r left p kd sz =
+    cond-both (eqb n size) (one s (drop n rest)) (bad WrongLength) (λ x. x ≡ one r left → Taken n k rest r left)
+    (λ t e.
+    let same : s ≡ r = cc in
+    record { payload = ap payload (sym same) ∙ p; follows = cc; kind = kd ∙ ap kindOf same; size = eqb-true n size t ∙ sz ∙ ap sizeOf same })
+    (λ f e. never e)
+
+kinded-one : (n k : ℕ) (rest : List ℕ) (r : Rec) (left : List ℕ) → kinded n k rest ≡ one r left → Taken n k rest r left
+kinded-one n k rest r left =
+    cond-both (eqb k 1) _ _ (λ x. x ≡ one r left → Taken n k rest r left)
+    (λ t. sized-one n k 4 (startRec (take n rest)) rest r left refl (eqb-true k 1 t) refl)
+    (λ _. cond-both (eqb k 2) _ _ (λ x. x ≡ one r left → Taken n k rest r left)
+    (λ t. sized-one n k 8 (plainRec (take n rest)) rest r left refl (eqb-true k 2 t) refl)
+    (λ _. cond-both (eqb k 3) _ _ (λ x. x ≡ one r left → Taken n k rest r left)
+    (λ t. sized-one n k 8 (cornerRec (take n rest)) rest r left refl (eqb-true k 3 t) refl)
+    (λ _. cond-both (eqb k 4) _ _ (λ x. x ≡ one r left → Taken n k rest r left)
+    (λ t. sized-one n k 14 (orderRec (take n rest)) rest r left refl (eqb-true k 4 t) refl)
+    (λ _ e. never e))))
+
+-- what stands at the front of the bytes, by the fields of its header
+pub record Fronted (bs : List ℕ) (r : Rec) (left : List ℕ) : Type 0 where
+  pub says : lengthAt bs ≡ sizeOf r
+  pub kind : kindAt bs ≡ kindOf r
+  pub all : length bs ≡ 4 + sizeOf r + length left
+  pub size : length (payload r) ≡ sizeOf r
+  pub inside : payload r ≡ take (sizeOf r) (drop 4 bs)
+  pub whole : drop 4 bs ≡ payload r ++ left
+
+two-bytes : (a b : ℕ) (bs : List ℕ) → unle (take 2 (a ∷ b ∷ bs)) ≡ a + b * 256
+two-bytes a b bs = omega arith
+
+pub front-one : (bs : List ℕ) (r : Rec) (left : List ℕ) → front bs ≡ one r left → Fronted bs r left
+front-one [] r left e = never e
+front-one (a ∷ []) r left e = never e
+front-one (a ∷ b ∷ []) r left e = never e
+front-one (a ∷ b ∷ c ∷ []) r left e = never e
+front-one (l0 ∷ l1 ∷ k0 ∷ k1 ∷ rest) r left e0 =
+    let n : ℕ = l0 + l1 * 256 in
+    cond-both (ltb (length rest) n) (bad CutRecord) (kinded n (k0 + k1 * 256) rest) (λ x. x ≡ one r left → Fronted (l0 ∷ l1 ∷ k0 ∷ k1 ∷ rest) r left)
+    (λ _ e. never e)
+    (λ f e.
+    let t = kinded-one n (k0 + k1 * 256) rest r left e in
+    let enough = ltb-false _ _ f in
+    let size = t .size in
+    let tail = ap length (t .follows) ∙ length-drop n rest in
+    record {
+      says = two-bytes l0 l1 (k0 ∷ k1 ∷ rest) ∙ size;
+      kind = two-bytes k0 k1 rest ∙ t .kind;
+      all = omega arith;
+      size = ap length (t .payload) ∙ length-take-le n rest enough ∙ size;
+      inside = t .payload ∙ ap (λ m. take m rest) size;
+      whole = sym ((λ i. t .payload i ++ t .follows i) ∙ take-append-drop n rest);
+    })
+    e0
+
+pub front-less : (bs : List ℕ) (r : Rec) (left : List ℕ) → front bs ≡ one r left → length left < length bs
+front-less bs r left e = let f = front-one bs r left e in omega arith
+
+header : (n a b : ℕ) → a < 256 → b < 256 → n ≡ a + b * 256 → le 2 n ≡ a ∷ b ∷ []
+header n a b p q e =
+    let low : n % 256 ≡ a = omega arith in
+    let quot : n / 256 ≡ b = omega arith in
+    let small : b % 256 ≡ b = omega arith in
+    let high : n / 256 % 256 ≡ b = ap (λ m. m % 256) quot ∙ small in
+    rw (low, high)
+
+-- the bytes are those of the record, and then the others
+pub front-split : (bs : List ℕ) (r : Rec) (left : List ℕ) → All Byte bs → front bs ≡ one r left → bs ≡ frame r ++ left
+front-split [] r left h e = never e
+front-split (a ∷ []) r left h e = never e
+front-split (a ∷ b ∷ []) r left h e = never e
+front-split (a ∷ b ∷ c ∷ []) r left h e = never e
+front-split (l0 ∷ l1 ∷ k0 ∷ k1 ∷ rest) r left h e =
+    let f = front-one (l0 ∷ l1 ∷ k0 ∷ k1 ∷ rest) r left e in
+    let h1 = header (length (payload r)) l0 l1 (h .0) (h .1 .0) (f .size ∙ sym (f .says) ∙ two-bytes l0 l1 (k0 ∷ k1 ∷ rest)) in
+    let h2 = header (kindOf r) k0 k1 (h .1 .1 .0) (h .1 .1 .1 .0) (sym (f .kind) ∙ two-bytes k0 k1 rest) in
+    ap (λ l. l0 ∷ l1 ∷ k0 ∷ k1 ∷ l) (f .whole) ∙ sym (ap (λ l. (l ++ (le 2 (kindOf r) ++ payload r)) ++ left) h1 ∙ ap (λ l. l0 ∷ l1 ∷ ((l ++ payload r) ++ left)) h2)
+
+pub record Sound (r : Rec) (left : List ℕ) : Type 0 where
+  pub bytes : All Byte (payload r)
+  pub rest : All Byte left
+
+pub front-sound : (bs : List ℕ) (r : Rec) (left : List ℕ) → All Byte bs → front bs ≡ one r left → Sound r left
+front-sound bs r left h e =
+    let f = front-one bs r left e in
+    let tail : All Byte (payload r ++ left) = subst (All Byte) (f .whole) (all-drop Byte 4 bs h) in
+    record {
+      bytes = subst (All Byte) (take-at (payload r) left (length (payload r)) refl) (all-take Byte (length (payload r)) (payload r ++ left) tail);
+      rest = subst (All Byte) (drop-at (payload r) left (length (payload r)) refl) (all-drop Byte (length (payload r)) (payload r ++ left) tail);
+    }
+
+-- reading what `frame` wrote
+module _ (rest : List ℕ) where
+  framed : (n k size : ℕ) (s : List ℕ → Rec) (p : List ℕ) → length p ≡ size → n ≡ size → size ≤ 14 → ((b : List ℕ) → kinded size k (p ++ rest) ≡ one (s (take size (p ++ rest))) (drop size (p ++ rest))) → cond (ltb (length (p ++ rest)) n) (bad CutRecord) (kinded n k (p ++ rest)) ≡ one (s p) rest
+  framed n k size s p long is few by =
+      let enough : ltb (length (p ++ rest)) n ≡ false = le-ltb _ _ (omega (arith, length-append p rest)) in
+      cond-false _ _ _ enough ∙ ap (λ m. kinded m k (p ++ rest)) is ∙ by [] ∙ ap (λ l. one (s l) (drop size (p ++ rest))) (take-at p rest size long) ∙ ap (one (s p)) (drop-at p rest size long)
+
+  pub front-frame : (r : Rec) → length (payload r) ≡ sizeOf r → front (frame r ++ rest) ≡ one r rest
+  front-frame (startRec p) h = framed _ 1 4 startRec p h (omega arith) (omega arith) (λ _. refl)
+  front-frame (plainRec p) h = framed _ 2 8 plainRec p h (omega arith) (omega arith) (λ _. refl)
+  front-frame (cornerRec p) h = framed _ 3 8 cornerRec p h (omega arith) (omega arith) (λ _. refl)
+  front-frame (orderRec p) h = framed _ 4 14 orderRec p h (omega arith) (omega arith) (λ _. refl)
+
+-- WHY A RECORD IS REFUSED
+
+-- no cause with a smaller number holds, if none of the first four does
+pub firstly : (c : PageCause) (part : Part) (bs : List ℕ) → numberOf c ≤ 15 → (11 < numberOf c → Holds CutRecord part bs → ⊥) → (12 < numberOf c → Holds StrangeKind part bs → ⊥) → (13 < numberOf c → Holds WrongLength part bs → ⊥) → (14 < numberOf c → Holds OutOfPlace part bs → ⊥) → (d : PageCause) → numberOf d < numberOf c → Holds d part bs → ⊥
+firstly c part bs top a b e f CutRecord l h = a l h
+firstly c part bs top a b e f StrangeKind l h = b l h
+firstly c part bs top a b e f WrongLength l h = e l h
+firstly c part bs top a b e f OutOfPlace l h = f l h
+firstly c part bs top a b e f WrongCode l h = omega arith
+firstly c part bs top a b e f ShortPage l h = h
+
+pub uncut : (part : Part) (bs : List ℕ) → 4 + lengthAt bs ≤ length bs → Holds CutRecord part bs → ⊥
+uncut part bs enough h = ⊎-elim (λ l. omega arith) (λ l. omega arith) (h .1)
+
+known : (r : Rec) → (1 ≤ kindOf r) × (kindOf r ≤ 4)
+known (startRec p) = (omega arith, omega arith)
+known (plainRec p) = (omega arith, omega arith)
+known (cornerRec p) = (omega arith, omega arith)
+known (orderRec p) = (omega arith, omega arith)
+
+long : (r : Rec) (k n : ℕ) → k ≡ kindOf r → n ≡ sizeOf r → Long k n
+long (startRec p) k n a b = inl (a, b)
+long (plainRec p) k n a b = inr (inl (a, b))
+long (cornerRec p) k n a b = inr (inr (inl (a, b)))
+long (orderRec p) k n a b = inr (inr (inr (a, b)))
+
+-- a record that is read is none of the first three causes
+pub record Sane (part : Part) (bs : List ℕ) : Type 0 where
+  pub uncut : Holds CutRecord part bs → ⊥
+  pub known : Holds StrangeKind part bs → ⊥
+  pub long : Holds WrongLength part bs → ⊥
+
+pub front-sane : (part : Part) (bs : List ℕ) (r : Rec) (left : List ℕ) → front bs ≡ one r left → Sane part bs
+front-sane part bs r left e =
+    let f = front-one bs r left e in
+    let k = known r in
+    record {
+      uncut = uncut part bs (omega arith);
+      known = λ h. ⊎-elim (λ l. omega arith) (λ l. omega arith) (h .1);
+      long = λ h. h .1 (long r (kindAt bs) (lengthAt bs) (f .kind) (f .says));
+    }
+
+fine : {P : Type 0} {c : PageCause} {r : Rec} {left : List ℕ} → one r left ≡ bad c → P
+fine e = never (sym e)
+
+-- the header says the length n and the kind k, and that many bytes follow it
+record Headed (bs : List ℕ) (n k : ℕ) : Type 0 where
+  pub says : lengthAt bs ≡ n
+  pub kind : kindAt bs ≡ k
+  pub enough : 4 + n ≤ length bs
+
+strange : (k : ℕ) → (k ≡ 1 → ⊥) → (k ≡ 2 → ⊥) → (k ≡ 3 → ⊥) → (k ≡ 4 → ⊥) → (k < 1) ⊎ (4 < k)
+strange k a b c d = cond-both {A = ℕ} (ltb k 1) 0 0 (λ _. (k < 1) ⊎ (4 < k)) (λ t. inl (ltb-true k 1 t)) (λ f. inr (omega (arith, ltb-false k 1 f)))
+
+module _ (part : Part) (bs : List ℕ) where
+  -- the cause that was told is the one that holds
+  as-told : (c d : PageCause) → bad c ≡ bad d → Stops c part bs → Stops d part bs
+  as-told c d e s = let same : c ≡ d = cc in subst (λ x. Stops x part bs) same s
+
+  stops-cut : Holds CutRecord part bs → Stops CutRecord part bs
+  stops-cut h = record { holds = h; first = firstly CutRecord part bs (omega arith) (λ l x. omega arith) (λ l x. omega arith) (λ l x. omega arith) (λ l x. omega arith) }
+
+  stops-strange : (n k : ℕ) → Headed bs n k → (k < 1) ⊎ (4 < k) → Stops StrangeKind part bs
+  stops-strange n k t s =
+      record {
+        holds = (omega arith, ⊎-elim (λ l. inl (omega arith)) (λ l. inr (omega arith)) s);
+        first = firstly StrangeKind part bs (omega arith) (λ l. uncut part bs (omega arith)) (λ l x. omega arith) (λ l x. omega arith) (λ l x. omega arith);
+      }
+
+  stops-length : (n k size : ℕ) → Headed bs n k → 1 ≤ k → k ≤ 4 → ((m : ℕ) → Long k m → m ≡ size) → (n ≡ size → ⊥) → Stops WrongLength part bs
+  stops-length n k size t a b only other =
+      record {
+        holds = (omega arith, λ l. other (only n (subst (λ x. Long x n) (t .kind) (subst (λ x. Long (kindAt bs) x) (t .says) l))));
+        first = firstly WrongLength part bs (omega arith) (λ l. uncut part bs (omega arith)) (λ l x. ⊎-elim (λ y. omega arith) (λ y. omega arith) (x .1)) (λ l x. omega arith) (λ l x. omega arith);
+      }
+
+  sized-bad : (n k size : ℕ) (s : Rec) (rest : List ℕ) (c : PageCause) → Headed bs n k → 1 ≤ k → k ≤ 4 → ((m : ℕ) → Long k m → m ≡ size) → sized n size s rest ≡ bad c → Stops c part bs
+  sized-bad n k size s rest c t a b only =
+      cond-both (eqb n size) (one s (drop n rest)) (bad WrongLength) (λ x. x ≡ bad c → Stops c part bs)
+      (λ _ e. fine e)
+      (λ f e. as-told WrongLength c e (stops-length n k size t a b only (eqb-false n size f)))
+
+  only : (k size n : ℕ) → (k ≡ 1 → size ≡ 4) → (k ≡ 2 → size ≡ 8) → (k ≡ 3 → size ≡ 8) → (k ≡ 4 → size ≡ 14) → Long k n → n ≡ size
+  only k size n a b c d =
+      ⊎-elim (λ x. x .1 ∙ sym (a (x .0))) (⊎-elim (λ x. x .1 ∙ sym (b (x .0))) (⊎-elim (λ x. x .1 ∙ sym (c (x .0))) (λ x. x .1 ∙ sym (d (x .0)))))
+
+  kinded-bad : (n k : ℕ) (rest : List ℕ) (c : PageCause) → Headed bs n k → kinded n k rest ≡ bad c → Stops c part bs
+  kinded-bad n k rest c t =
+      let sizes : (kd size : ℕ) (s : Rec) → k ≡ kd → 1 ≤ kd → kd ≤ 4 → (kd ≡ 1 → size ≡ 4) → (kd ≡ 2 → size ≡ 8) → (kd ≡ 3 → size ≡ 8) → (kd ≡ 4 → size ≡ 14) → sized n size s rest ≡ bad c → Stops c part bs = λ kd size s e l h p q u v. sized-bad n k size s rest c t (omega arith) (omega arith) (λ m. only k size m (λ z. p (sym e ∙ z)) (λ z. q (sym e ∙ z)) (λ z. u (sym e ∙ z)) (λ z. v (sym e ∙ z))) in
+      cond-both (eqb k 1) _ _ (λ x. x ≡ bad c → Stops c part bs)
+      (λ w. sizes 1 4 _ (eqb-true k 1 w) (omega arith) (omega arith) (λ z. refl) (λ z. omega arith) (λ z. omega arith) (λ z. omega arith))
+      (λ f1. cond-both (eqb k 2) _ _ (λ x. x ≡ bad c → Stops c part bs)
+      (λ w. sizes 2 8 _ (eqb-true k 2 w) (omega arith) (omega arith) (λ z. omega arith) (λ z. refl) (λ z. omega arith) (λ z. omega arith))
+      (λ f2. cond-both (eqb k 3) _ _ (λ x. x ≡ bad c → Stops c part bs)
+      (λ w. sizes 3 8 _ (eqb-true k 3 w) (omega arith) (omega arith) (λ z. omega arith) (λ z. omega arith) (λ z. refl) (λ z. omega arith))
+      (λ f3. cond-both (eqb k 4) _ _ (λ x. x ≡ bad c → Stops c part bs)
+      (λ w. sizes 4 14 _ (eqb-true k 4 w) (omega arith) (omega arith) (λ z. omega arith) (λ z. omega arith) (λ z. omega arith) (λ z. refl))
+      (λ f4 e. as-told StrangeKind c e (stops-strange n k t (strange k (eqb-false k 1 f1) (eqb-false k 2 f2) (eqb-false k 3 f3) (eqb-false k 4 f4)))))))
+
+pub front-bad : (part : Part) (b : ℕ) (bs : List ℕ) (c : PageCause) → front (b ∷ bs) ≡ bad c → Stops c part (b ∷ bs)
+front-bad part a [] c e = as-told part _ CutRecord c e (stops-cut part _ (omega arith, inl (omega arith)))
+front-bad part a (b ∷ []) c e = as-told part _ CutRecord c e (stops-cut part _ (omega arith, inl (omega arith)))
+front-bad part a (b ∷ d ∷ []) c e = as-told part _ CutRecord c e (stops-cut part _ (omega arith, inl (omega arith)))
+front-bad part l0 (l1 ∷ k0 ∷ k1 ∷ rest) c e0 =
+    let n : ℕ = l0 + l1 * 256 in
+    let bs : List ℕ = l0 ∷ l1 ∷ k0 ∷ k1 ∷ rest in
+    cond-both (ltb (length rest) n) (bad CutRecord) (kinded n (k0 + k1 * 256) rest) (λ x. x ≡ bad c → Stops c part bs)
+    (λ t e. let short = ltb-true (length rest) n t in as-told part bs CutRecord c e (stops-cut part bs (omega arith, inr (omega arith))))
+    (λ f e.
+    let enough = ltb-false (length rest) n f in
+    kinded-bad part bs n (k0 + k1 * 256) rest c (record { says = two-bytes l0 l1 (k0 ∷ k1 ∷ rest); kind = two-bytes k0 k1 rest; enough = omega arith }) e)
+    e0

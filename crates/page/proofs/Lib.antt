@@ -1,0 +1,12 @@
+pub mod Bytes
+pub mod Digits
+pub mod Fronts
+pub mod Framing
+pub mod Stepping
+pub mod Putting
+pub mod Returning
+pub mod Causing
+pub mod Payloads
+pub mod Judging
+pub mod Deciding
+pub mod Appending

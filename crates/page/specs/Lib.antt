@@ -1,0 +1,12 @@
+pub mod Little
+pub mod Faults
+pub mod Records
+pub mod Strokes
+pub mod Fits
+pub mod Steps
+pub mod Causes
+pub mod Laws
+pub mod Walks
+pub mod Answers
+pub mod Writes
+pub mod Appends
