@@ -7,6 +7,7 @@ use lib.Dec.{leb, ltb}
 use lib.ListN.{length, getD, take, length-append}
 use borrow.Author.Tests.{true-leb}
 use Rattle.std.specs.Joined.{joined}
+use Rattle.std.specs.declared.result.Result.the-variants.{Err}
 use Rattle.std.proofs.shelf.Tests.{cond-true, cond-false, cond-both, lt-ltb, le-ltb}
 use Rattle.std.proofs.shelf.Lists.{take-all}
 use Rattle.page.specs.declared.fault.PageCause.the-variants.{ShortPage}
@@ -14,7 +15,7 @@ use Rattle.page.specs.declared.kinds.Totals.{Totals}
 use Rattle.page.specs.Little.{le}
 use Rattle.page.specs.Answers.{keptPayload, keptBytes, keptFits}
 use Rattle.page.specs.Writes.{written}
-use Rattle.page.specs.Appends.{refuses, appends, appendsKept}
+use Rattle.page.specs.Appends.{outcome, refuses, appendsKept}
 use Rattle.page.proofs.Putting.{written-none, put-after, joined-length, put-more, appends-short, appends-fits}
 use Rattle.page.proofs.writer.Writer.append_kept.Needs as need
 use Rattle.page.proofs.writer.Writer.append_kept.Needs.{then-count-gt32757·by·then-count-gt32757, then-count-gt32757·by·else-count-gt32757·then-not-has-room}
@@ -38,7 +39,8 @@ returns-then-count-gt32757 c =
     let ks : List ℕ = c .args .numbers .now in
     let n : ℕ = c .args .number in
     let t : Totals = c .args .totals in
-    elim (c .then-count-gt32757 .came) [
+    ap (λ f. outcome (Err f) used page) (c .at .ensures)
+    ∙ elim (c .then-count-gt32757 .came) [
       | then-count-gt32757·by·then-count-gt32757 w ↦ sym (cond-false _ _ _ (kept-long n t ks (w .if-count-gt32757 .taken)))
       | then-count-gt32757·by·else-count-gt32757·then-not-has-room w ↦ appends-short used _ page (keptBytes n t ks) (bytes-length n t ks) (w .if-not-has-room .ensures tt) ∙ sym (cond-true _ _ _ (kept-fits n t ks (w .if-count-gt32757 .left)))
     ]
