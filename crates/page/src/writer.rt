@@ -19,8 +19,11 @@ use crate::kinds::Order;
 use crate::kinds::Point;
 use crate::kinds::Totals;
 
+// The most kept numbers whose record's length fits its two bytes.
+const MOST_KEPT: usize = 32757;
+
 // How many bytes of the page are used.
-#[derive(Clone, Copy, Debug, PartialEq, Eq)]
+#[derive(Clone, Copy)]
 pub struct Writer {
     pub used: usize,
 }
@@ -74,7 +77,7 @@ impl Writer {
     {
         let used = self.used;
         let count = numbers.len();
-        if count > 32757 || !has_room(page.len(), used, 24, 2, count) {
+        if count > MOST_KEPT || !has_room(page.len(), used, 24, 2, count) {
             return Err(PageCause::ShortPage.at(used));
         }
         put(page, used, &kept_start(number, count));
