@@ -20,7 +20,7 @@ use Rattle.page.specs.declared.kinds.Step.{Step}
 use Rattle.page.specs.Faults.{numberOf, toldAt}
 use Rattle.page.specs.Records.{Front, bad, one, front}
 use Rattle.page.specs.Strokes.{Stroke, pageBytes}
-use Rattle.page.specs.Steps.{State, outside, partOf, Stepped, Ending, accepted, refusedBy, meant, stays, passes, atFront, stepped, after, readFrom, reading}
+use Rattle.page.specs.Steps.{State, outside, partOf, Stepped, Ending, accepted, refusedBy, meant, stays, passes, atFront, stepped, readOn, readFrom, reading}
 use Rattle.page.specs.Causes.{Holds, Stops, openBytes, RefusedFirst, Verdict, Alone}
 use Rattle.page.proofs.Framing.{front-bad}
 use Rattle.page.proofs.Stepping.{read-step}
@@ -58,7 +58,7 @@ step-stops place part (x ∷ xs) c p = go (front (x ∷ xs)) refl
         refused (Err t) j = ap (λ u. stays place part (x ∷ xs) (Err u)) (j .1 .0 ∙ told-alike place part (x ∷ xs) (j .0) c (j .1 .1) p)
 
 read-stops : (place : ℕ) (s : State) (bs : List ℕ) (c : PageCause) → Stops c (partOf s) bs → readFrom place s bs ≡ record { strokes = []; ending = refusedBy (toldAt c place) }
-read-stops place s bs c p = read-step place s bs ∙ ap (after s readFrom) (step-stops place (partOf s) bs c p)
+read-stops place s bs c p = read-step place s bs ∙ ap (readOn s readFrom) (step-stops place (partOf s) bs c p)
 
 refused-alone : (bs : List ℕ) (ss : List Stroke) (t : Told) → RefusedFirst bs ss t → reading bs ≡ record { strokes = ss; ending = refusedBy t }
 refused-alone bs ss t w =

@@ -9,7 +9,10 @@ use lib.Dec.{eqb, ltb}
 use lib.ListN.{length, take, drop, take-append-drop, length-drop, length-append}
 use lib.Seq.{length-take-le}
 use Rattle.std.specs.shelf.Lists.{All}
-use Rattle.std.proofs.shelf.Tests.{eqb-true, eqb-false, ltb-true, ltb-false, le-ltb, cond-both, cond-false}
+use Rattle.std.specs.declared.option.Option.{Option}
+use Rattle.std.specs.declared.option.Option.the-variants.{Some, None}
+use Rattle.std.proofs.shelf.Tests.{eqb-true, eqb-false, ltb-true, ltb-false, le-ltb, cond-both, cond-true, cond-false}
+use borrow.Author.Tests.{eq-eqb}
 use Rattle.std.proofs.shelf.Lists.{take-at, drop-at}
 use Rattle.std.proofs.shelf.Elements.{all-take, all-drop}
 use Rattle.page.specs.declared.fault.PageCause.{PageCause}
@@ -17,7 +20,7 @@ use Rattle.page.specs.declared.fault.PageCause.the-variants.{CutRecord, Strang
 use Rattle.page.specs.declared.kinds.Part.{Part}
 use Rattle.page.specs.Little.{le, unle}
 use Rattle.page.specs.Faults.{numberOf}
-use Rattle.page.specs.Records.{Rec, startRec, plainRec, cornerRec, orderRec, kindOf, payload, sizeOf, frame, Front, bad, one, sized, kinded, front}
+use Rattle.page.specs.Records.{Rec, startRec, plainRec, cornerRec, orderRec, kindOf, payload, sizeOf, frame, Front, bad, one, known, sized, front}
 use Rattle.page.specs.Fits.{Byte}
 use Rattle.page.specs.Causes.{lengthAt, kindAt, Long, Holds, Stops}
 
@@ -33,25 +36,34 @@ record Taken (n k : ℕ) (rest : List ℕ) (r : Rec) (left : List ℕ) : Type 0 
 pub never : {P : Type 0} {c : PageCause} {r : Rec} {left : List ℕ} → bad c ≡ one r left → P
 never e = let z : _≡_ {A = ℕ} 0 1 = cc in absurd (omega arith)
 
-sized-one : (n k size : ℕ) (s : Rec) (rest : List ℕ) (r : Rec) (left : List ℕ) → payload s ≡ take n rest → k ≡ kindOf s → size ≡ sizeOf s → sized n size s rest ≡ one r left → Taken n k rest r left
-sized-one n k size s rest r left p kd sz =
-    cond-both (eqb n size) (one s (drop n rest)) (bad WrongLength) (λ x. x ≡ one r left → Taken n k rest r left)
+-- a known record has its kind's number, and the payload that it was made of
+record Known (k : ℕ) (p : List ℕ) (r : Rec) : Type 0 where
+  pub payload : payload r ≡ p
+  pub kind : k ≡ kindOf r
+
+known-one : (k : ℕ) (p : List ℕ) (r : Rec) → known k p ≡ Some r → Known k p r
+known-one k p r =
+    let arm : (kd : ℕ) (s : Rec) → k ≡ kd → payload s ≡ p → kd ≡ kindOf s → Some s ≡ Some r → Known k p r = λ kd s a b d e. let same : s ≡ r = cc in record { payload = ap payload (sym same) ∙ b; kind = a ∙ d ∙ ap kindOf same } in
+    cond-both (eqb k 1) _ _ (λ x. x ≡ Some r → Known k p r)
+    (λ t. arm 1 (startRec p) (eqb-true k 1 t) refl refl)
+    (λ _. cond-both (eqb k 2) _ _ (λ x. x ≡ Some r → Known k p r)
+    (λ t. arm 2 (plainRec p) (eqb-true k 2 t) refl refl)
+    (λ _. cond-both (eqb k 3) _ _ (λ x. x ≡ Some r → Known k p r)
+    (λ t. arm 3 (cornerRec p) (eqb-true k 3 t) refl refl)
+    (λ _. cond-both (eqb k 4) _ _ (λ x. x ≡ Some r → Known k p r)
+    (λ t. arm 4 (orderRec p) (eqb-true k 4 t) refl refl)
+    (λ _ e. let z : _≡_ {A = ℕ} 0 1 = cc in absurd (omega arith)))))
+
+sized-one : (n k : ℕ) (rest : List ℕ) (o : Option Rec) (r : Rec) (left : List ℕ) → known k (take n rest) ≡ o → sized n rest o ≡ one r left → Taken n k rest r left
+sized-one n k rest None r left h e = never e
+sized-one n k rest (Some s) r left h e0 =
+    let f = known-one k (take n rest) s h in
+    cond-both (eqb n (sizeOf s)) (one s (drop n rest)) (bad WrongLength) (λ x. x ≡ one r left → Taken n k rest r left)
     (λ t e.
     let same : s ≡ r = cc in
-    record { payload = ap payload (sym same) ∙ p; follows = cc; kind = kd ∙ ap kindOf same; size = eqb-true n size t ∙ sz ∙ ap sizeOf same })
-    (λ f e. never e)
-
-kinded-one : (n k : ℕ) (rest : List ℕ) (r : Rec) (left : List ℕ) → kinded n k rest ≡ one r left → Taken n k rest r left
-kinded-one n k rest r left =
-    cond-both (eqb k 1) _ _ (λ x. x ≡ one r left → Taken n k rest r left)
-    (λ t. sized-one n k 4 (startRec (take n rest)) rest r left refl (eqb-true k 1 t) refl)
-    (λ _. cond-both (eqb k 2) _ _ (λ x. x ≡ one r left → Taken n k rest r left)
-    (λ t. sized-one n k 8 (plainRec (take n rest)) rest r left refl (eqb-true k 2 t) refl)
-    (λ _. cond-both (eqb k 3) _ _ (λ x. x ≡ one r left → Taken n k rest r left)
-    (λ t. sized-one n k 8 (cornerRec (take n rest)) rest r left refl (eqb-true k 3 t) refl)
-    (λ _. cond-both (eqb k 4) _ _ (λ x. x ≡ one r left → Taken n k rest r left)
-    (λ t. sized-one n k 14 (orderRec (take n rest)) rest r left refl (eqb-true k 4 t) refl)
-    (λ _ e. never e))))
+    record { payload = ap payload (sym same) ∙ f .payload; follows = cc; kind = f .kind ∙ ap kindOf same; size = eqb-true n (sizeOf s) t ∙ ap sizeOf same })
+    (λ _ e. never e)
+    e0
 
 -- what stands at the front of the bytes, by the fields of its header
 pub record Fronted (bs : List ℕ) (r : Rec) (left : List ℕ) : Type 0 where
@@ -72,10 +84,10 @@ front-one (a ∷ b ∷ []) r left e = never e
 front-one (a ∷ b ∷ c ∷ []) r left e = never e
 front-one (l0 ∷ l1 ∷ k0 ∷ k1 ∷ rest) r left e0 =
     let n : ℕ = l0 + l1 * 256 in
-    cond-both (ltb (length rest) n) (bad CutRecord) (kinded n (k0 + k1 * 256) rest) (λ x. x ≡ one r left → Fronted (l0 ∷ l1 ∷ k0 ∷ k1 ∷ rest) r left)
+    cond-both (ltb (length rest) n) (bad CutRecord) (sized n rest (known (k0 + k1 * 256) (take n rest))) (λ x. x ≡ one r left → Fronted (l0 ∷ l1 ∷ k0 ∷ k1 ∷ rest) r left)
     (λ _ e. never e)
     (λ f e.
-    let t = kinded-one n (k0 + k1 * 256) rest r left e in
+    let t = sized-one n (k0 + k1 * 256) rest (known (k0 + k1 * 256) (take n rest)) r left refl e in
     let enough = ltb-false _ _ f in
     let size = t .size in
     let tail = ap length (t .follows) ∙ length-drop n rest in
@@ -126,17 +138,35 @@ front-sound bs r left h e =
     }
 
 -- reading what `frame` wrote
-module _ (rest : List ℕ) where
-  framed : (n k size : ℕ) (s : List ℕ → Rec) (p : List ℕ) → length p ≡ size → n ≡ size → size ≤ 14 → ((b : List ℕ) → kinded size k (p ++ rest) ≡ one (s (take size (p ++ rest))) (drop size (p ++ rest))) → cond (ltb (length (p ++ rest)) n) (bad CutRecord) (kinded n k (p ++ rest)) ≡ one (s p) rest
-  framed n k size s p long is few by =
-      let enough : ltb (length (p ++ rest)) n ≡ false = le-ltb _ _ (omega (arith, length-append p rest)) in
-      cond-false _ _ _ enough ∙ ap (λ m. kinded m k (p ++ rest)) is ∙ by [] ∙ ap (λ l. one (s l) (drop size (p ++ rest))) (take-at p rest size long) ∙ ap (one (s p)) (drop-at p rest size long)
+known-kind : (r : Rec) → known (kindOf r) (payload r) ≡ Some r
+known-kind (startRec p) = refl
+known-kind (plainRec p) = refl
+known-kind (cornerRec p) = refl
+known-kind (orderRec p) = refl
 
-  pub front-frame : (r : Rec) → length (payload r) ≡ sizeOf r → front (frame r ++ rest) ≡ one r rest
-  front-frame (startRec p) h = framed _ 1 4 startRec p h (omega arith) (omega arith) (λ _. refl)
-  front-frame (plainRec p) h = framed _ 2 8 plainRec p h (omega arith) (omega arith) (λ _. refl)
-  front-frame (cornerRec p) h = framed _ 3 8 cornerRec p h (omega arith) (omega arith) (λ _. refl)
-  front-frame (orderRec p) h = framed _ 4 14 orderRec p h (omega arith) (omega arith) (λ _. refl)
+small : (r : Rec) → (kindOf r < 256) × (sizeOf r < 256)
+small (startRec p) = (omega arith, omega arith)
+small (plainRec p) = (omega arith, omega arith)
+small (cornerRec p) = (omega arith, omega arith)
+small (orderRec p) = (omega arith, omega arith)
+
+two-back : (n : ℕ) → n < 256 → n % 256 + n / 256 % 256 * 256 ≡ n
+two-back n h = omega arith
+
+pub front-frame : (rest : List ℕ) (r : Rec) → length (payload r) ≡ sizeOf r → front (frame r ++ rest) ≡ one r rest
+front-frame rest r h =
+    let n : ℕ = sizeOf r in
+    let p : List ℕ = payload r in
+    let s = small r in
+    let says : length p % 256 + length p / 256 % 256 * 256 ≡ n = two-back (length p) (omega arith) ∙ h in
+    let kind = two-back (kindOf r) (omega arith) in
+    let enough : ltb (length (p ++ rest)) n ≡ false = le-ltb _ _ (omega (arith, length-append p rest)) in
+    (λ i. cond (ltb (length (p ++ rest)) (says i)) (bad CutRecord) (sized (says i) (p ++ rest) (known (kind i) (take (says i) (p ++ rest)))))
+    ∙ cond-false _ _ _ enough
+    ∙ ap (λ l. sized n (p ++ rest) (known (kindOf r) l)) (take-at p rest n h)
+    ∙ ap (sized n (p ++ rest)) (known-kind r)
+    ∙ cond-true _ _ _ (eq-eqb n n refl)
+    ∙ ap (one r) (drop-at p rest n h)
 
 -- WHY A RECORD IS REFUSED
 
@@ -152,11 +182,11 @@ firstly c part bs top a b e f ShortPage l h = h
 pub uncut : (part : Part) (bs : List ℕ) → 4 + lengthAt bs ≤ length bs → Holds CutRecord part bs → ⊥
 uncut part bs enough h = ⊎-elim (λ l. omega arith) (λ l. omega arith) (h .1)
 
-known : (r : Rec) → (1 ≤ kindOf r) × (kindOf r ≤ 4)
-known (startRec p) = (omega arith, omega arith)
-known (plainRec p) = (omega arith, omega arith)
-known (cornerRec p) = (omega arith, omega arith)
-known (orderRec p) = (omega arith, omega arith)
+known-kinds : (r : Rec) → (1 ≤ kindOf r) × (kindOf r ≤ 4)
+known-kinds (startRec p) = (omega arith, omega arith)
+known-kinds (plainRec p) = (omega arith, omega arith)
+known-kinds (cornerRec p) = (omega arith, omega arith)
+known-kinds (orderRec p) = (omega arith, omega arith)
 
 long : (r : Rec) (k n : ℕ) → k ≡ kindOf r → n ≡ sizeOf r → Long k n
 long (startRec p) k n a b = inl (a, b)
@@ -173,7 +203,7 @@ pub record Sane (part : Part) (bs : List ℕ) : Type 0 where
 pub front-sane : (part : Part) (bs : List ℕ) (r : Rec) (left : List ℕ) → front bs ≡ one r left → Sane part bs
 front-sane part bs r left e =
     let f = front-one bs r left e in
-    let k = known r in
+    let k = known-kinds r in
     record {
       uncut = uncut part bs (omega arith);
       known = λ h. ⊎-elim (λ l. omega arith) (λ l. omega arith) (h .1);
@@ -191,6 +221,22 @@ record Headed (bs : List ℕ) (n k : ℕ) : Type 0 where
 
 strange : (k : ℕ) → (k ≡ 1 → ⊥) → (k ≡ 2 → ⊥) → (k ≡ 3 → ⊥) → (k ≡ 4 → ⊥) → (k < 1) ⊎ (4 < k)
 strange k a b c d = cond-both {A = ℕ} (ltb k 1) 0 0 (λ _. (k < 1) ⊎ (4 < k)) (λ t. inl (ltb-true k 1 t)) (λ f. inr (omega (arith, ltb-false k 1 f)))
+
+known-none : (k : ℕ) (p : List ℕ) → known k p ≡ None → (k < 1) ⊎ (4 < k)
+known-none k p =
+    let no : (s : Rec) → Some s ≡ None → (k < 1) ⊎ (4 < k) = λ s e. let z : _≡_ {A = ℕ} 0 1 = cc in absurd (omega arith) in
+    cond-both (eqb k 1) _ _ (λ x. x ≡ None → (k < 1) ⊎ (4 < k)) (λ _. no (startRec p))
+    (λ a. cond-both (eqb k 2) _ _ (λ x. x ≡ None → (k < 1) ⊎ (4 < k)) (λ _. no (plainRec p))
+    (λ b. cond-both (eqb k 3) _ _ (λ x. x ≡ None → (k < 1) ⊎ (4 < k)) (λ _. no (cornerRec p))
+    (λ c. cond-both (eqb k 4) _ _ (λ x. x ≡ None → (k < 1) ⊎ (4 < k)) (λ _. no (orderRec p))
+    (λ d _. strange k (eqb-false k 1 a) (eqb-false k 2 b) (eqb-false k 3 c) (eqb-false k 4 d)))))
+
+-- the one length that a kind has
+only : (s : Rec) (n : ℕ) → Long (kindOf s) n → n ≡ sizeOf s
+only (startRec p) n = ⊎-elim (λ x. x .1) (⊎-elim (λ x. absurd (omega arith)) (⊎-elim (λ x. absurd (omega arith)) (λ x. absurd (omega arith))))
+only (plainRec p) n = ⊎-elim (λ x. absurd (omega arith)) (⊎-elim (λ x. x .1) (⊎-elim (λ x. absurd (omega arith)) (λ x. absurd (omega arith))))
+only (cornerRec p) n = ⊎-elim (λ x. absurd (omega arith)) (⊎-elim (λ x. absurd (omega arith)) (⊎-elim (λ x. x .1) (λ x. absurd (omega arith))))
+only (orderRec p) n = ⊎-elim (λ x. absurd (omega arith)) (⊎-elim (λ x. absurd (omega arith)) (⊎-elim (λ x. absurd (omega arith)) (λ x. x .1)))
 
 module _ (part : Part) (bs : List ℕ) where
   -- the cause that was told is the one that holds
@@ -214,28 +260,15 @@ module _ (part : Part) (bs : List ℕ) where
         first = firstly WrongLength part bs (omega arith) (λ l. uncut part bs (omega arith)) (λ l x. ⊎-elim (λ y. omega arith) (λ y. omega arith) (x .1)) (λ l x. omega arith) (λ l x. omega arith);
       }
 
-  sized-bad : (n k size : ℕ) (s : Rec) (rest : List ℕ) (c : PageCause) → Headed bs n k → 1 ≤ k → k ≤ 4 → ((m : ℕ) → Long k m → m ≡ size) → sized n size s rest ≡ bad c → Stops c part bs
-  sized-bad n k size s rest c t a b only =
-      cond-both (eqb n size) (one s (drop n rest)) (bad WrongLength) (λ x. x ≡ bad c → Stops c part bs)
+  sized-bad : (n k : ℕ) (rest : List ℕ) (o : Option Rec) (c : PageCause) → known k (take n rest) ≡ o → Headed bs n k → sized n rest o ≡ bad c → Stops c part bs
+  sized-bad n k rest None c h t e = as-told StrangeKind c e (stops-strange n k t (known-none k (take n rest) h))
+  sized-bad n k rest (Some s) c h t e0 =
+      let f = known-one k (take n rest) s h in
+      let kd = known-kinds s in
+      cond-both (eqb n (sizeOf s)) (one s (drop n rest)) (bad WrongLength) (λ x. x ≡ bad c → Stops c part bs)
       (λ _ e. fine e)
-      (λ f e. as-told WrongLength c e (stops-length n k size t a b only (eqb-false n size f)))
-
-  only : (k size n : ℕ) → (k ≡ 1 → size ≡ 4) → (k ≡ 2 → size ≡ 8) → (k ≡ 3 → size ≡ 8) → (k ≡ 4 → size ≡ 14) → Long k n → n ≡ size
-  only k size n a b c d =
-      ⊎-elim (λ x. x .1 ∙ sym (a (x .0))) (⊎-elim (λ x. x .1 ∙ sym (b (x .0))) (⊎-elim (λ x. x .1 ∙ sym (c (x .0))) (λ x. x .1 ∙ sym (d (x .0)))))
-
-  kinded-bad : (n k : ℕ) (rest : List ℕ) (c : PageCause) → Headed bs n k → kinded n k rest ≡ bad c → Stops c part bs
-  kinded-bad n k rest c t =
-      let sizes : (kd size : ℕ) (s : Rec) → k ≡ kd → 1 ≤ kd → kd ≤ 4 → (kd ≡ 1 → size ≡ 4) → (kd ≡ 2 → size ≡ 8) → (kd ≡ 3 → size ≡ 8) → (kd ≡ 4 → size ≡ 14) → sized n size s rest ≡ bad c → Stops c part bs = λ kd size s e l h p q u v. sized-bad n k size s rest c t (omega arith) (omega arith) (λ m. only k size m (λ z. p (sym e ∙ z)) (λ z. q (sym e ∙ z)) (λ z. u (sym e ∙ z)) (λ z. v (sym e ∙ z))) in
-      cond-both (eqb k 1) _ _ (λ x. x ≡ bad c → Stops c part bs)
-      (λ w. sizes 1 4 _ (eqb-true k 1 w) (omega arith) (omega arith) (λ z. refl) (λ z. omega arith) (λ z. omega arith) (λ z. omega arith))
-      (λ f1. cond-both (eqb k 2) _ _ (λ x. x ≡ bad c → Stops c part bs)
-      (λ w. sizes 2 8 _ (eqb-true k 2 w) (omega arith) (omega arith) (λ z. omega arith) (λ z. refl) (λ z. omega arith) (λ z. omega arith))
-      (λ f2. cond-both (eqb k 3) _ _ (λ x. x ≡ bad c → Stops c part bs)
-      (λ w. sizes 3 8 _ (eqb-true k 3 w) (omega arith) (omega arith) (λ z. omega arith) (λ z. omega arith) (λ z. refl) (λ z. omega arith))
-      (λ f3. cond-both (eqb k 4) _ _ (λ x. x ≡ bad c → Stops c part bs)
-      (λ w. sizes 4 14 _ (eqb-true k 4 w) (omega arith) (omega arith) (λ z. omega arith) (λ z. omega arith) (λ z. omega arith) (λ z. refl))
-      (λ f4 e. as-told StrangeKind c e (stops-strange n k t (strange k (eqb-false k 1 f1) (eqb-false k 2 f2) (eqb-false k 3 f3) (eqb-false k 4 f4)))))))
+      (λ u e. as-told WrongLength c e (stops-length n k (sizeOf s) t (omega (arith, f .kind)) (omega (arith, f .kind)) (λ m l. only s m (subst (λ x. Long x m) (f .kind) l)) (eqb-false n (sizeOf s) u)))
+      e0
 
 pub front-bad : (part : Part) (b : ℕ) (bs : List ℕ) (c : PageCause) → front (b ∷ bs) ≡ bad c → Stops c part (b ∷ bs)
 front-bad part a [] c e = as-told part _ CutRecord c e (stops-cut part _ (omega arith, inl (omega arith)))
@@ -244,9 +277,9 @@ front-bad part a (b ∷ d ∷ []) c e = as-told part _ CutRecord c e (stops-cut 
 front-bad part l0 (l1 ∷ k0 ∷ k1 ∷ rest) c e0 =
     let n : ℕ = l0 + l1 * 256 in
     let bs : List ℕ = l0 ∷ l1 ∷ k0 ∷ k1 ∷ rest in
-    cond-both (ltb (length rest) n) (bad CutRecord) (kinded n (k0 + k1 * 256) rest) (λ x. x ≡ bad c → Stops c part bs)
+    cond-both (ltb (length rest) n) (bad CutRecord) (sized n rest (known (k0 + k1 * 256) (take n rest))) (λ x. x ≡ bad c → Stops c part bs)
     (λ t e. let short = ltb-true (length rest) n t in as-told part bs CutRecord c e (stops-cut part bs (omega arith, inr (omega arith))))
     (λ f e.
     let enough = ltb-false (length rest) n f in
-    kinded-bad part bs n (k0 + k1 * 256) rest c (record { says = two-bytes l0 l1 (k0 ∷ k1 ∷ rest); kind = two-bytes k0 k1 rest; enough = omega arith }) e)
+    sized-bad part bs n (k0 + k1 * 256) rest (known (k0 + k1 * 256) (take n rest)) c refl (record { says = two-bytes l0 l1 (k0 ∷ k1 ∷ rest); kind = two-bytes k0 k1 rest; enough = omega arith }) e)
     e0

@@ -29,7 +29,7 @@ use Rattle.page.specs.Faults.{numberOf, toldAt}
 use Rattle.page.specs.Records.{Rec, startRec, plainRec, cornerRec, orderRec, sizeOf, payload, frame, Front, bad, one, front}
 use Rattle.page.specs.Strokes.{Stroke, strokeOf, startBytes, pointBytes, orderBytes, strokeBytes, pageBytes, pointOf, orderOf, codes}
 use Rattle.page.specs.Fits.{Byte, PointFits, StrokeFits}
-use Rattle.page.specs.Steps.{State, outside, inside, partOf, Reading, accepted, refusedBy, meant, passes, stepped, atFront, onward, after, readFrom, reading}
+use Rattle.page.specs.Steps.{State, outside, inside, partOf, Reading, accepted, refusedBy, meant, passes, stepped, atFront, onward, readOn, readFrom, reading}
 use Rattle.page.specs.Causes.{Holds, Stops, openBytes, OpenFits, RefusedFirst, Verdict, Judged}
 use Rattle.page.specs.Laws.{Accepted-stays}
 use Rattle.page.proofs.Framing.{Sound, front-one, front-less, front-split, front-sound, front-bad, firstly}
@@ -67,7 +67,7 @@ stop pre left ss s c t b e h =
 
 -- THE END OF THE PAGE
 
-at-end : (pre : List ℕ) (ss : List Stroke) (s : State) → Before pre ss s → Right (pre ++ []) (behind ss (after s readFrom (stepped (length pre) (partOf s) [])))
+at-end : (pre : List ℕ) (ss : List Stroke) (s : State) → Before pre ss s → Right (pre ++ []) (behind ss (readOn s readFrom (stepped (length pre) (partOf s) [])))
 at-end pre ss outside b =
     (append-nil pre ∙ b .bytes ∙ append-nil (pageBytes ss) ∙ ap pageBytes (sym (append-nil ss)), subst (All StrokeFits) (sym (append-nil ss)) (b .strokes))
 at-end pre ss (inside n ps) b =
@@ -127,7 +127,7 @@ close-stroke pre ss n ps p b size h ok =
 module _ (turns : ℕ) (still : Still turns) (pre bs : List ℕ) (few : length bs ≤ turns) (h : All Byte bs) (ss : List Stroke) where
   -- what is right after the record r, which says something or is refused
   abbrev After : State → Rec → List ℕ → Result Step Told → Type 0
-  After s r left a = Right (pre ++ bs) (behind ss (after s readFrom (passes (length pre) (partOf s) bs r left a)))
+  After s r left a = Right (pre ++ bs) (behind ss (readOn s readFrom (passes (length pre) (partOf s) bs r left a)))
 
   -- a record that is refused where it stands
   ill : (s : State) (t : Told) → Before pre ss s → Judge (length pre) (partOf s) bs (Err t) → Right (pre ++ bs) (behind ss (record { strokes = []; ending = refusedBy t }))
@@ -171,7 +171,7 @@ right zero pre ss s left few b h = absurd (omega arith)
 right (suc turns) pre ss s [] few b h = subst (λ r. Right (pre ++ []) (behind ss r)) (sym (read-step (length pre) s [])) (at-end pre ss s b)
 right (suc turns) pre ss s (x ∷ xs) few b h = subst (λ r. Right (pre ++ x ∷ xs) (behind ss r)) (sym (read-step (length pre) s (x ∷ xs))) (go (right turns) (front (x ∷ xs)) refl)
   where
-    go : Still turns → (f : Front) → front (x ∷ xs) ≡ f → Right (pre ++ x ∷ xs) (behind ss (after s readFrom (atFront (length pre) (partOf s) (x ∷ xs) f)))
+    go : Still turns → (f : Front) → front (x ∷ xs) ≡ f → Right (pre ++ x ∷ xs) (behind ss (readOn s readFrom (atFront (length pre) (partOf s) (x ∷ xs) f)))
     go still (bad c) e = stop pre (x ∷ xs) ss s c (toldAt c (length pre)) b refl (front-bad (partOf s) x xs c e)
     go still (one r left) e = one-more turns still pre (x ∷ xs) (omega arith) h ss s r left e b
 

@@ -24,7 +24,7 @@ use Rattle.page.specs.Little.{le, unle}
 use Rattle.page.specs.Records.{Rec, startRec, plainRec, cornerRec, orderRec, payload, sizeOf, recordBytes, frame}
 use Rattle.page.specs.Strokes.{Stroke, startBytes, markKind, pointPayload, pointBytes, orderPayload, orderBytes, strokeBytes, pageBytes, pointOf, orderOf, codes}
 use Rattle.page.specs.Fits.{PointFits, StrokeFits}
-use Rattle.page.specs.Steps.{meant, State, outside, inside, partOf, Reading, Ending, accepted, closed, onward, after, readFrom}
+use Rattle.page.specs.Steps.{meant, State, outside, inside, partOf, Reading, Ending, accepted, closed, onward, readOn, readFrom}
 use Rattle.page.specs.Causes.{openBytes, OpenFits}
 use Rattle.page.proofs.Bytes.{unle-le}
 use Rattle.page.proofs.Framing.{front-frame}
@@ -37,7 +37,7 @@ behind ss r = record { strokes = ss ++ r .strokes; ending = r .ending }
 
 read-record : (place : ℕ) (s : State) (r : Rec) (rest : List ℕ) (x : Step) → length (payload r) ≡ sizeOf r → meant place (partOf s) r ≡ Ok x → readFrom place s (frame r ++ rest) ≡ onward s (λ s′. readFrom (place + (4 + sizeOf r)) s′ rest) (Ok x)
 read-record place s r rest x h m =
-    read-step place s (frame r ++ rest) ∙ sym (ap (after s readFrom) (step-one place (place + (4 + sizeOf r)) (partOf s) (frame r ++ rest) r rest x (front-frame rest r h) refl m))
+    read-step place s (frame r ++ rest) ∙ sym (ap (readOn s readFrom) (step-one place (place + (4 + sizeOf r)) (partOf s) (frame r ++ rest) r rest x (front-frame rest r h) refl m))
 
 read-start : (place n : ℕ) (rest : List ℕ) → n < 2 ^ 32 → readFrom place outside (startBytes n ++ rest) ≡ readFrom (place + 8) (inside n []) rest
 read-start place n rest h =

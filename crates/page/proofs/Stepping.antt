@@ -6,18 +6,20 @@ use native.Mathlib.Omega.{arith}
 use lib.ListN.{length}
 use Rattle.std.specs.declared.result.Result.{Result}
 use Rattle.std.specs.declared.result.Result.the-variants.{Ok, Err}
+use Rattle.std.proofs.shelf.Tests.{cond-both}
 use Rattle.refusal.specs.declared.Told.{Told}
 use Rattle.page.specs.declared.fault.PageCause.{PageCause}
+use Rattle.page.specs.declared.fault.PageCause.the-variants.{WrongCode}
 use Rattle.page.specs.declared.kinds.Point.{Point}
 use Rattle.page.specs.declared.kinds.Part.{Part}
 use Rattle.page.specs.declared.kinds.Part.the-variants.{Outside, Inside}
 use Rattle.page.specs.declared.kinds.Step.{Step}
 use Rattle.page.specs.declared.kinds.Step.the-variants.{Begin, Point as Next, Finish, End}
 use Rattle.page.specs.Faults.{toldAt}
-use Rattle.page.specs.Records.{Rec, sizeOf, Front, bad, one, front}
-use Rattle.page.specs.Strokes.{strokeOf}
-use Rattle.page.specs.Steps.{meant, partAfter, Stepped, stays, passes, atEnd, atFront, stepped, State, outside, inside, stateOf, partOf, Reading, onward, after, readBy, readFrom}
-use Rattle.page.specs.Walks.{Falls}
+use Rattle.page.specs.Records.{Rec, startRec, plainRec, cornerRec, orderRec, sizeOf, Front, bad, one, front}
+use Rattle.page.specs.Strokes.{strokeOf, orderOf, codes}
+use Rattle.page.specs.Steps.{meant, partBefore, partAfter, Stepped, stays, passes, atEnd, atFront, stepped, State, outside, inside, stateOf, partOf, Reading, onward, readOn, readBy, readFrom}
+use Rattle.page.specs.Walks.{Falls, Parts}
 use Rattle.page.proofs.Framing.{never, front-less}
 
 -- EVERY RECORD LEAVES FEWER BYTES
@@ -38,6 +40,35 @@ step-falls place Outside [] = tt
 step-falls place Inside [] = tt
 step-falls place part (b ∷ bs) = front-falls place part (b ∷ bs) (front (b ∷ bs)) refl
 
+-- EVERY STEP IS MADE WHERE IT BELONGS
+
+abbrev Made : Part → Result Step Told → Type 0
+Made part (Ok s) = part ≡ partBefore s
+Made part (Err t) = Unit {0}
+
+meant-made : (place : ℕ) (part : Part) (r : Rec) → Made part (meant place part r)
+meant-made place Outside (startRec p) = refl
+meant-made place Outside (plainRec p) = tt
+meant-made place Outside (cornerRec p) = tt
+meant-made place Outside (orderRec p) = tt
+meant-made place Inside (startRec p) = tt
+meant-made place Inside (plainRec p) = refl
+meant-made place Inside (cornerRec p) = refl
+meant-made place Inside (orderRec p) = cond-both (codes (orderOf p)) (Ok (Finish (orderOf p))) (Err (toldAt WrongCode place)) (Made Inside) (λ _. refl) (λ _. tt)
+
+passes-parts : (place : ℕ) (part : Part) (bs : List ℕ) (r : Rec) (left : List ℕ) (a : Result Step Told) → Made part a → Parts part (passes place part bs r left a .part) (passes place part bs r left a .answer)
+passes-parts place part bs r left (Ok s) h = (h, refl)
+passes-parts place part bs r left (Err t) h = refl
+
+front-parts : (place : ℕ) (part : Part) (bs : List ℕ) (x : Front) → Parts part (atFront place part bs x .part) (atFront place part bs x .answer)
+front-parts place part bs (bad c) = refl
+front-parts place part bs (one r left) = passes-parts place part bs r left (meant place part r) (meant-made place part r)
+
+step-parts : (place : ℕ) (part : Part) (bs : List ℕ) → Parts part (stepped place part bs .part) (stepped place part bs .answer)
+step-parts place Outside [] = (refl, refl)
+step-parts place Inside [] = refl
+step-parts place part (b ∷ bs) = front-parts place part (b ∷ bs) (front (b ∷ bs))
+
 -- HOW MANY STEPS ARE ALLOWED DOES NOT MATTER, ONCE THEY ARE ENOUGH
 
 same-onward : (s : State) (f g : State → Reading) (new old : ℕ) (a : Result Step Told) → Falls new old a → (new < old → (s′ : State) → f s′ ≡ g s′) → onward s f a ≡ onward s g a
@@ -57,7 +88,7 @@ turns (suc f) (suc g) place s bs p q =
     let x : Stepped = stepped place (partOf s) bs in
     same-onward s (λ s′. readBy f (x .place) s′ (x .rest)) (λ s′. readBy g (x .place) s′ (x .rest)) (length (x .rest)) (length bs) (x .answer) (step-falls place (partOf s) bs) (λ l s′. turns f g (x .place) s′ (x .rest) (omega arith) (omega arith))
 
-pub read-step : (place : ℕ) (s : State) (bs : List ℕ) → readFrom place s bs ≡ after s readFrom (stepped place (partOf s) bs)
+pub read-step : (place : ℕ) (s : State) (bs : List ℕ) → readFrom place s bs ≡ readOn s readFrom (stepped place (partOf s) bs)
 unfolding readBy readFrom
 read-step place s bs =
     let x : Stepped = stepped place (partOf s) bs in
@@ -70,12 +101,15 @@ part-state Outside n ps = refl
 part-state Inside n ps = refl
 
 module _ (place : ℕ) (part : Part) (bs : List ℕ) (x : Stepped) (e : x ≡ stepped place part bs) where
-  pub reads-on : (n : ℕ) (ps : List Point) → readFrom place (stateOf part n ps) bs ≡ after (stateOf part n ps) readFrom x
+  pub reads-on : (n : ℕ) (ps : List Point) → readFrom place (stateOf part n ps) bs ≡ readOn (stateOf part n ps) readFrom x
   reads-on n ps =
-      read-step place (stateOf part n ps) bs ∙ ap (λ y. after (stateOf part n ps) readFrom (stepped place y bs)) (part-state part n ps) ∙ sym (ap (after (stateOf part n ps) readFrom) e)
+      read-step place (stateOf part n ps) bs ∙ ap (λ y. readOn (stateOf part n ps) readFrom (stepped place y bs)) (part-state part n ps) ∙ sym (ap (readOn (stateOf part n ps) readFrom) e)
 
   pub falls-on : Falls (length (x .rest)) (length bs) (x .answer)
   falls-on = subst (λ y. Falls (length (y .rest)) (length bs) (y .answer)) (sym e) (step-falls place part bs)
+
+  pub parts-on : Parts part (x .part) (x .answer)
+  parts-on = subst (λ y. Parts part (y .part) (y .answer)) (sym e) (step-parts place part bs)
 
 -- a record that says something
 pub step-one : (place next : ℕ) (part : Part) (bs : List ℕ) (r : Rec) (left : List ℕ) (s : Step) → front bs ≡ one r left → next ≡ place + (4 + sizeOf r) → meant place part r ≡ Ok s → _≡_ {A = Stepped} (record { answer = Ok s; place = next; part = partAfter s; rest = left }) (stepped place part bs)

@@ -6,14 +6,16 @@
 --   sizeOf            how long a payload of its kind is
 --   frame             its bytes
 --   Front             why the record at the front is refused, or that record and the bytes after it
---   sized             the record, if the length is its kind's
---   kinded            the record, if its kind is known
+--   known k p         the record of kind k, if the kind is known
+--   sized             the record, if there is one and the length is its kind's
 --   front             the record at the front of some bytes
 use mathlib.Core.Bool.{cond}
 use mathlib.Core.List.{List, [], _∷_, _++_}
 use Prim.Native.Nat.{ℕ, _+_, _*_}
 use lib.Dec.{ltb, eqb}
 use lib.ListN.{length, take, drop}
+use Rattle.std.specs.declared.option.Option.{Option}
+use Rattle.std.specs.declared.option.Option.the-variants.{Some, None}
 use Rattle.page.specs.declared.fault.PageCause.{PageCause}
 use Rattle.page.specs.declared.fault.PageCause.the-variants.{CutRecord, StrangeKind, WrongLength}
 use Rattle.page.specs.Little.{le}
@@ -52,15 +54,16 @@ pub data Front : Type 0 where
   bad : PageCause → Front
   one : Rec → List ℕ → Front
 
-abbrev pub sized : ℕ → ℕ → Rec → List ℕ → Front
-sized n size r rest = cond (eqb n size) (one r (drop n rest)) (bad WrongLength)
+abbrev pub known : ℕ → List ℕ → Option Rec
+known k p =
+    cond (eqb k 1) (Some (startRec p))
+    (cond (eqb k 2) (Some (plainRec p))
+    (cond (eqb k 3) (Some (cornerRec p))
+    (cond (eqb k 4) (Some (orderRec p)) None)))
 
-abbrev pub kinded : ℕ → ℕ → List ℕ → Front
-kinded n k rest =
-    cond (eqb k 1) (sized n 4 (startRec (take n rest)) rest)
-    (cond (eqb k 2) (sized n 8 (plainRec (take n rest)) rest)
-    (cond (eqb k 3) (sized n 8 (cornerRec (take n rest)) rest)
-    (cond (eqb k 4) (sized n 14 (orderRec (take n rest)) rest) (bad StrangeKind))))
+abbrev pub sized : ℕ → List ℕ → Option Rec → Front
+sized n rest None = bad StrangeKind
+sized n rest (Some r) = cond (eqb n (sizeOf r)) (one r (drop n rest)) (bad WrongLength)
 
 abbrev pub front : List ℕ → Front
 front [] = bad CutRecord
@@ -68,4 +71,4 @@ front (a ∷ []) = bad CutRecord
 front (a ∷ b ∷ []) = bad CutRecord
 front (a ∷ b ∷ c ∷ []) = bad CutRecord
 front (l0 ∷ l1 ∷ k0 ∷ k1 ∷ rest) =
-    cond (ltb (length rest) (l0 + l1 * 256)) (bad CutRecord) (kinded (l0 + l1 * 256) (k0 + k1 * 256) rest)
+    cond (ltb (length rest) (l0 + l1 * 256)) (bad CutRecord) (sized (l0 + l1 * 256) rest (known (k0 + k1 * 256) (take (l0 + l1 * 256) rest)))

@@ -1,16 +1,23 @@
 -- A page read record by record, from its front.
 --   meant p part r     what the record r at the place p says, between strokes or inside one
---   partAfter          where a step leaves the walk
+--   partBefore         where a step is made
+--   partAfter          where it leaves the walk
 --   Stepped            a step's answer, with the place, the part and the bytes left after it
 --   stays              nothing moves
 --   passes             a record that says something is passed, and a refused one is not
 --   atEnd              what the end of the page says
+--   atFront            the step at what stands at the front
 --   stepped            the step from a place, a part and the bytes left
 --   State              between strokes, or inside one with its number and the points so far
 --   stateOf            the state of a part, where the number and the points are told
+--   partOf             whether a state is inside a stroke
 --   Ending             how a reading ends: at the end of the page, or by a refusal
 --   Reading            the strokes that were read whole, and how it ended
+--   pointed            the open stroke has one point more
+--   closed             the open stroke, closed by its order, stands before what is read then
 --   onward             what is read after a step's answer, where `go` reads the rest
+--   readOn             the same, from where a step leaves the walk
+--   readBy             what is read from a place and a state on, in at most so many steps
 --   readFrom           what is read from a place and a state on
 --   reading            what is read of a page
 use mathlib.Core.Bool.{cond}
@@ -42,6 +49,12 @@ meant place Inside (startRec p) = Err (toldAt OutOfPlace place)
 meant place Inside (plainRec p) = Ok (Next (pointOf Plain p))
 meant place Inside (cornerRec p) = Ok (Next (pointOf Corner p))
 meant place Inside (orderRec p) = cond (codes (orderOf p)) (Ok (Finish (orderOf p))) (Err (toldAt WrongCode place))
+
+abbrev pub partBefore : Step → Part
+partBefore (Begin n) = Outside
+partBefore (Next p) = Inside
+partBefore (Finish o) = Inside
+partBefore End = Outside
 
 abbrev pub partAfter : Step → Part
 partAfter (Begin n) = Inside
@@ -94,12 +107,10 @@ pub record Reading : Type 0 where
   pub strokes : List Stroke
   pub ending : Ending
 
--- one point more of the open stroke
 abbrev pub pointed : State → Point → State
 pointed outside p = outside
 pointed (inside n ps) p = inside n (ps ++ p ∷ [])
 
--- the open stroke, closed by its order, before what is read then
 abbrev pub closed : State → Order → Reading → Reading
 closed outside o r = r
 closed (inside n ps) o r = record { strokes = strokeOf n ps o ∷ r .strokes; ending = r .ending }
@@ -111,13 +122,12 @@ onward s go (Ok (Finish o)) = closed s o (go outside)
 onward s go (Ok End) = record { strokes = []; ending = accepted }
 onward s go (Err t) = record { strokes = []; ending = refusedBy t }
 
-abbrev pub after : State → (ℕ → State → List ℕ → Reading) → Stepped → Reading
-after s go x = onward s (λ s′. go (x .place) s′ (x .rest)) (x .answer)
+abbrev pub readOn : State → (ℕ → State → List ℕ → Reading) → Stepped → Reading
+readOn s go x = onward s (λ s′. go (x .place) s′ (x .rest)) (x .answer)
 
--- in at most so many steps
 unfoldable pub readBy : ℕ → ℕ → State → List ℕ → Reading
 readBy zero place s bs = record { strokes = []; ending = accepted }
-readBy (suc steps) place s bs = after s (readBy steps) (stepped place (partOf s) bs)
+readBy (suc steps) place s bs = readOn s (readBy steps) (stepped place (partOf s) bs)
 
 -- every record leaves fewer bytes, so that these steps reach the end
 unfoldable pub readFrom : ℕ → State → List ℕ → Reading

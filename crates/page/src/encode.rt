@@ -4,7 +4,7 @@ ghost use mathlib.Core.List.{_++_};
 ghost use Prim.Native.Nat.{ℕ, _+_, _*_, _<_, _≤_};
 ghost use lib.Dec.{leb};
 ghost use lib.ListN.{length};
-ghost use Rattle.page.specs.Strokes.{startBytes, pointBytes, orderBytes};
+ghost use Rattle.page.specs.Strokes.{startBytes, markKind, pointBytes, orderBytes};
 ghost use Rattle.page.specs.Little.{le};
 ghost use Rattle.page.specs.Answers.{refusedBytes};
 ghost use Rattle.page.specs.Fits.{PointFits};
@@ -20,14 +20,20 @@ pub(crate) fn start_record(number: u32) -> [u8; 8]
     [4, 0, 1, 0, a, b, c, d]
 }
 
+fn mark_kind(m: Mark) -> u8
+    ensures { λ r. ⌜ r ≡ markKind m ⌝ }
+{
+    match m {
+        Mark::Plain => 2,
+        Mark::Corner => 3,
+    }
+}
+
 pub(crate) fn point_record(p: Point) -> [u8; 12]
     ensures bytes { λ r. ⌜ r ≡ pointBytes p ⌝ }
     ensures fits { λ _. ⌜ PointFits p ⌝ }
 {
-    let kind = match p.mark {
-        Mark::Plain => 2,
-        Mark::Corner => 3,
-    };
+    let kind = mark_kind(p.mark);
     let [x0, x1] = p.x.to_le_bytes();
     let [y0, y1] = p.y.to_le_bytes();
     let [a, b, c, d] = p.t.to_le_bytes();
@@ -93,15 +99,15 @@ pub(crate) fn refused_record(number: u32, refusal: u16, place: u16) -> [u8; 12]
     [8, 0, 6, 0, a, b, c, d, r0, r1, p0, p1]
 }
 
-// Whether `front` bytes and `count` times `each` fit into `len` behind those used.
-pub(crate) fn has_room(len: usize, used: usize, front: usize, each: usize, count: usize) -> bool
+// Whether `head` bytes and `count` times `each` fit into `len` behind those used.
+pub(crate) fn has_room(len: usize, used: usize, head: usize, each: usize, count: usize) -> bool
     requires { ⌜ 0 < each ⌝ }
-    ensures { λ r. ⌜ r ≡ leb (used + (front + each * count)) len ⌝ }
+    ensures { λ r. ⌜ r ≡ leb (used + (head + each * count)) len ⌝ }
 {
-    if len < used || len - used < front {
+    if len < used || len - used < head {
         return false;
     }
-    count <= (len - used - front) / each
+    count <= (len - used - head) / each
 }
 
 // Puts bytes into the page.

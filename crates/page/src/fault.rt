@@ -21,6 +21,14 @@ pub struct PageFault {
     pub place: usize,
 }
 
+impl PageCause {
+    pub(crate) fn at(self, place: usize) -> PageFault
+        ensures { λ r. ⌜ r ≡ record { cause = self; place = place } ⌝ }
+    {
+        PageFault { cause: self, place }
+    }
+}
+
 impl PageFault {
     pub fn told(self) -> Told
         ensures { λ r. ⌜ r ≡ told self ⌝ }

@@ -3,7 +3,7 @@ ghost use mathlib.Core.Path.{_≡_};
 ghost use Rattle.page.specs.Strokes.{code, codes};
 
 // A record by its kind, with its payload, which is still a part of the page.
-#[derive(Clone, Copy, Debug)]
+#[derive(Clone, Copy)]
 pub enum Record<'a> {
     Start(&'a [u8]),
     Plain(&'a [u8]),
@@ -12,7 +12,7 @@ pub enum Record<'a> {
 }
 
 // A record, and the place of its first byte on the page.
-#[derive(Clone, Copy, Debug)]
+#[derive(Clone, Copy)]
 pub struct Placed<'a> {
     pub record: Record<'a>,
     pub place: usize,
@@ -42,21 +42,21 @@ pub struct Order {
 }
 
 // The two total fields of a record of kept points.
-#[derive(Clone, Copy, Debug, PartialEq, Eq)]
+#[derive(Clone, Copy)]
 pub struct Totals {
     pub first: u64,
     pub second: u64,
 }
 
 // Where a walk stands: between strokes, or inside one.
-#[derive(Clone, Copy, Debug, PartialEq, Eq)]
+#[derive(Clone, Copy)]
 pub enum Part {
     Outside,
     Inside,
 }
 
 // What one record says where it stands, or that the page has ended.
-#[derive(Clone, Copy, Debug, PartialEq, Eq)]
+#[derive(Clone, Copy)]
 pub enum Step {
     Begin(u32),
     Point(Point),
@@ -70,9 +70,11 @@ fn is_code(n: u8) -> bool
     1 <= n && n <= 3
 }
 
-// Whether both codes of an order are known.
-pub(crate) fn has_codes(o: Order) -> bool
-    ensures { λ r. ⌜ r ≡ codes o ⌝ }
-{
-    is_code(o.measure) && is_code(o.total)
+impl Order {
+    // Whether both codes are known.
+    pub(crate) fn has_codes(self) -> bool
+        ensures { λ r. ⌜ r ≡ codes self ⌝ }
+    {
+        is_code(self.measure) && is_code(self.total)
+    }
 }

@@ -8,10 +8,10 @@ ghost use Rattle.refusal.specs.Said.{said};
 ghost use Rattle.page.specs.declared.kinds.Point.{Point};
 ghost use Rattle.page.specs.Faults.{told, stepTold, OfPage};
 ghost use Rattle.page.specs.Records.{payload, sizeOf};
-ghost use Rattle.page.specs.Steps.{meant, partAfter, atEnd, stepped, stateOf, after, readFrom};
+ghost use Rattle.page.specs.Steps.{meant, partAfter, atEnd, stepped, stateOf, readOn, readFrom};
 ghost use Rattle.page.specs.Causes.{Judged, Alone};
 ghost use Rattle.page.specs.Laws.{Accepted-stays};
-ghost use Rattle.page.specs.Walks.{recOf, seen, Falls};
+ghost use Rattle.page.specs.Walks.{recOf, seen, Falls, Parts};
 use crate::decode;
 use crate::fault::PageCause;
 use crate::fault::PageFault;
@@ -22,7 +22,6 @@ use crate::kinds::Part;
 use crate::kinds::Placed;
 use crate::kinds::Record;
 use crate::kinds::Step;
-use crate::kinds::has_codes;
 use crate::record::first_record;
 use crate::walk::Walk;
 
@@ -35,25 +34,16 @@ fn meaning(p: Placed, part: Part) -> Result<Step, PageFault>
     match part {
         Part::Outside => match p.record {
             Record::Start(b) => Ok(Step::Begin(decode::number(b))),
-            _ => Err(PageFault {
-                cause: PageCause::OutOfPlace,
-                place,
-            }),
+            _ => Err(PageCause::OutOfPlace.at(place)),
         },
         Part::Inside => match p.record {
-            Record::Start(_) => Err(PageFault {
-                cause: PageCause::OutOfPlace,
-                place,
-            }),
+            Record::Start(_) => Err(PageCause::OutOfPlace.at(place)),
             Record::Plain(b) => Ok(Step::Point(decode::point(b, Mark::Plain))),
             Record::Corner(b) => Ok(Step::Point(decode::point(b, Mark::Corner))),
             Record::Order(b) => {
                 let order = decode::order(b);
-                if !has_codes(order) {
-                    return Err(PageFault {
-                        cause: PageCause::WrongCode,
-                        place,
-                    });
+                if !order.has_codes() {
+                    return Err(PageCause::WrongCode.at(place));
                 }
                 Ok(Step::Finish(order))
             }
@@ -67,10 +57,7 @@ fn page_end(place: usize, part: Part) -> Result<Step, PageFault>
 {
     match part {
         Part::Outside => Ok(Step::End),
-        Part::Inside => Err(PageFault {
-            cause: PageCause::OutOfPlace,
-            place,
-        }),
+        Part::Inside => Err(PageCause::OutOfPlace.at(place)),
     }
 }
 
@@ -110,8 +97,9 @@ impl<'a> Walk<'a> {
     pub fn step(&mut self) -> Result<Step, StepFault>
         ensures steps { λ r. ⌜ seen r (now (self .exit)) ≡ stepped (now (self .entry) .place) (now (self .entry) .part) (now (self .entry) .rest .now) ⌝ }
         ensures source { λ r. ⌜ refused r OfPage ⌝ }
-        ensures reads { λ r. ⌜ ((n : ℕ) (ps : List Point) → readFrom (now (self .entry) .place) (stateOf (now (self .entry) .part) n ps) (now (self .entry) .rest .now) ≡ after (stateOf (now (self .entry) .part) n ps) readFrom (seen r (now (self .exit)))) ⌝ }
+        ensures reads { λ r. ⌜ ((n : ℕ) (ps : List Point) → readFrom (now (self .entry) .place) (stateOf (now (self .entry) .part) n ps) (now (self .entry) .rest .now) ≡ readOn (stateOf (now (self .entry) .part) n ps) readFrom (seen r (now (self .exit)))) ⌝ }
         ensures falls { λ r. ⌜ Falls (length (now (self .exit) .rest .now)) (length (now (self .entry) .rest .now)) (said stepTold r) ⌝ }
+        ensures parts { λ r. ⌜ Parts (now (self .entry) .part) (now (self .exit) .part) (said stepTold r) ⌝ }
     {
         let place = self.place;
         let part = self.part;

@@ -18,10 +18,12 @@ use crate::fault::PageFault;
 use crate::kinds::Order;
 use crate::kinds::Point;
 use crate::kinds::Totals;
-use crate::kinds::has_codes;
+
+// The most kept numbers whose record's length fits its two bytes.
+const MOST_KEPT: usize = 32757;
 
 // How many bytes of the page are used.
-#[derive(Clone, Copy, Debug, PartialEq, Eq)]
+#[derive(Clone, Copy)]
 pub struct Writer {
     pub used: usize,
 }
@@ -46,17 +48,11 @@ impl Writer {
         ensures reads { λ r. ⌜ made r (λ n. OneMore (now (self .entry) .used) (now (page .entry)) (strokeOf number (now (points .entry)) order) n (now (page .exit))) ⌝ }
     {
         let used = self.used;
-        if !has_codes(order) {
-            return Err(PageFault {
-                cause: PageCause::WrongCode,
-                place: used,
-            });
+        if !order.has_codes() {
+            return Err(PageCause::WrongCode.at(used));
         }
         if !has_room(page.len(), used, 26, 12, points.len()) {
-            return Err(PageFault {
-                cause: PageCause::ShortPage,
-                place: used,
-            });
+            return Err(PageCause::ShortPage.at(used));
         }
         put(page, used, &start_record(number));
         let mut at = used + 8;
@@ -81,11 +77,8 @@ impl Writer {
     {
         let used = self.used;
         let count = numbers.len();
-        if count > 32757 || !has_room(page.len(), used, 24, 2, count) {
-            return Err(PageFault {
-                cause: PageCause::ShortPage,
-                place: used,
-            });
+        if count > MOST_KEPT || !has_room(page.len(), used, 24, 2, count) {
+            return Err(PageCause::ShortPage.at(used));
         }
         put(page, used, &kept_start(number, count));
         put(page, used + 8, &total_field(totals.first));
@@ -111,10 +104,7 @@ impl Writer {
     {
         let used = self.used;
         if !has_room(page.len(), used, 12, 1, 0) {
-            return Err(PageFault {
-                cause: PageCause::ShortPage,
-                place: used,
-            });
+            return Err(PageCause::ShortPage.at(used));
         }
         put(page, used, &refused_record(number, refusal, place));
         self.used = used + 12;

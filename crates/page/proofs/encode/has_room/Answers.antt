@@ -16,4 +16,4 @@ room len used front each count some u f false e =
     sym (lt-leb _ _ (omega (arith, mul-comm each count)))
 
 pub returns : need.returns
-returns c = room (c .args .len) (c .args .used) (c .args .front) (c .args .each) (c .args .count) (c .pre) (omega arith) (omega arith) _ refl
+returns c = room (c .args .len) (c .args .used) (c .args .head) (c .args .each) (c .args .count) (c .pre) (omega arith) (omega arith) _ refl

@@ -13,7 +13,6 @@ use Rattle.page.specs.declared.kinds.Point.{Point}
 use Rattle.page.specs.Records.{recordBytes}
 use Rattle.page.specs.Strokes.{markKind, pointPayload, pointBytes}
 use Rattle.page.proofs.encode.point_record.Needs as need
-use Rattle.page.proofs.encode.point_record.Needs.{in-Plain, in-Corner}
 
 marked : (m : Mark) (bs : List ℕ) → 8 ∷ 0 ∷ markKind m ∷ 0 ∷ bs ≡ 8 ∷ 0 ∷ markKind m % 256 ∷ markKind m / 256 % 256 ∷ bs
 marked Plain bs = refl
@@ -37,8 +36,7 @@ returns c =
     let fx : SFits w16 (c .args .p .x) = search needs in
     let fy : SFits w16 (c .args .p .y) = search needs in
     let ft : c .args .p .t < 2 ^ 32 = search needs in
-    let kind : c .match-p .kind ≡ markKind (c .args .p .mark) = elim (c .match-p .came) [ in-Plain w ↦ w .kind-is ∙ sym (ap markKind (w .in-Plain .is)) | in-Corner w ↦ w .kind-is ∙ sym (ap markKind (w .in-Corner .is)) ] in
     record {
-      bytes = whole (c .args .p) _ _ _ _ _ _ kind (c .to-le-bytes .ensures) (ap (ofZ w16) (toZ-ofZ w16 (c .args .p .x) fx)) (c .to-le-bytes-2 .ensures) (ap (ofZ w16) (toZ-ofZ w16 (c .args .p .y) fy)) (c .to-le-bytes-3 .ensures);
+      bytes = whole (c .args .p) _ _ _ _ _ _ (c .mark-kind-kind .ensures) (c .to-le-bytes .ensures) (ap (ofZ w16) (toZ-ofZ w16 (c .args .p .x) fx)) (c .to-le-bytes-2 .ensures) (ap (ofZ w16) (toZ-ofZ w16 (c .args .p .y) fy)) (c .to-le-bytes-3 .ensures);
       fits = record { x = fx; y = fy; t = ft };
     }

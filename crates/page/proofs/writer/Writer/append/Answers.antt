@@ -8,6 +8,7 @@ use lib.ListN.{length, getD, take, length-append}
 use borrow.Author.Needs.{needs}
 use borrow.Author.Tests.{true-leb}
 use Rattle.std.specs.Joined.{joined}
+use Rattle.std.specs.declared.result.Result.the-variants.{Err}
 use Rattle.std.proofs.shelf.Tests.{cond-true}
 use Rattle.std.proofs.shelf.Lists.{take-all}
 use Rattle.std.specs.shelf.Lists.{All}
@@ -17,6 +18,7 @@ use Rattle.page.specs.declared.kinds.Point.{Point}
 use Rattle.page.specs.Strokes.{Stroke, strokeOf, startBytes, pointBytes, orderBytes, strokeBytes}
 use Rattle.page.specs.Fits.{Byte, PointFits, StrokeFits}
 use Rattle.page.specs.Writes.{written}
+use Rattle.page.specs.Appends.{outcome}
 use Rattle.page.proofs.Putting.{written-none, put-after, joined-length, put-more, point-length, stroke-length, appends-short, appends-fits}
 use Rattle.page.proofs.Appending.{one-more}
 use Rattle.page.proofs.writer.Writer.append.Needs as need
@@ -24,7 +26,7 @@ use Rattle.page.proofs.writer.Writer.append.Needs as need
 pub returns-then-not-has-room : need.returns-then-not-has-room
 returns-then-not-has-room c =
     let s : Stroke = strokeOf (c .args .number) (c .args .points .now) (c .args .order) in
-    record { appends = appends-short (c .args .self .now .used) _ (c .args .page .now) (strokeBytes s) (stroke-length s) (c .if-not-has-room .ensures tt) ∙ sym (cond-true _ _ _ (sym (c .if-not-has-codes .ensures tt))); reads = tt }
+    record { appends = ap (λ f. outcome (Err f) (c .args .self .now .used) (c .args .page .now)) (c .at-then-not-has-room .ensures) ∙ appends-short (c .args .self .now .used) _ (c .args .page .now) (strokeBytes s) (stroke-length s) (c .if-not-has-room .ensures tt) ∙ sym (cond-true _ _ _ (sym (c .if-not-has-codes .ensures tt))); reads = tt }
 
 pub loop-p-holds : need.loop-p-holds
 loop-p-holds c =

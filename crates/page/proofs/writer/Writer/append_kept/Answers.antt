@@ -7,6 +7,7 @@ use lib.Dec.{leb, ltb}
 use lib.ListN.{length, getD, take, length-append}
 use borrow.Author.Tests.{true-leb}
 use Rattle.std.specs.Joined.{joined}
+use Rattle.std.specs.declared.result.Result.the-variants.{Err}
 use Rattle.std.proofs.shelf.Tests.{cond-true, cond-false, cond-both, lt-ltb, le-ltb}
 use Rattle.std.proofs.shelf.Lists.{take-all}
 use Rattle.page.specs.declared.fault.PageCause.the-variants.{ShortPage}
@@ -14,10 +15,10 @@ use Rattle.page.specs.declared.kinds.Totals.{Totals}
 use Rattle.page.specs.Little.{le}
 use Rattle.page.specs.Answers.{keptPayload, keptBytes, keptFits}
 use Rattle.page.specs.Writes.{written}
-use Rattle.page.specs.Appends.{refuses, appends, appendsKept}
+use Rattle.page.specs.Appends.{outcome, refuses, appendsKept}
 use Rattle.page.proofs.Putting.{written-none, put-after, joined-length, put-more, appends-short, appends-fits}
 use Rattle.page.proofs.writer.Writer.append_kept.Needs as need
-use Rattle.page.proofs.writer.Writer.append_kept.Needs.{then-count-gt32757·by·then-count-gt32757, then-count-gt32757·by·else-count-gt32757·then-not-has-room}
+use Rattle.page.proofs.writer.Writer.append_kept.Needs.{then-count-gt-MOST-KEPT·by·then-count-gt-MOST-KEPT, then-count-gt-MOST-KEPT·by·else-count-gt-MOST-KEPT·then-not-has-room}
 
 payload-length : (n : ℕ) (t : Totals) (ks : List ℕ) → length (keptPayload n t ks) ≡ 20 + 2 * length ks
 payload-length n t ks = let j = joined-length (le 2) 2 (λ _. refl) ks in omega arith
@@ -31,16 +32,17 @@ kept-fits n t ks h = let j = payload-length n t ks in lt-ltb (length (keptPayloa
 kept-long : (n : ℕ) (t : Totals) (ks : List ℕ) → 32757 < length ks → keptFits n t ks ≡ false
 kept-long n t ks h = let j = payload-length n t ks in le-ltb (length (keptPayload n t ks)) 65536 (omega arith)
 
-pub returns-then-count-gt32757 : need.returns-then-count-gt32757
-returns-then-count-gt32757 c =
+pub returns-then-count-gt-MOST-KEPT : need.returns-then-count-gt-MOST-KEPT
+returns-then-count-gt-MOST-KEPT c =
     let used : ℕ = c .args .self .now .used in
     let page : List ℕ = c .args .page .now in
     let ks : List ℕ = c .args .numbers .now in
     let n : ℕ = c .args .number in
     let t : Totals = c .args .totals in
-    elim (c .then-count-gt32757 .came) [
-      | then-count-gt32757·by·then-count-gt32757 w ↦ sym (cond-false _ _ _ (kept-long n t ks (w .if-count-gt32757 .taken)))
-      | then-count-gt32757·by·else-count-gt32757·then-not-has-room w ↦ appends-short used _ page (keptBytes n t ks) (bytes-length n t ks) (w .if-not-has-room .ensures tt) ∙ sym (cond-true _ _ _ (kept-fits n t ks (w .if-count-gt32757 .left)))
+    ap (λ f. outcome (Err f) used page) (c .at .ensures)
+    ∙ elim (c .then-count-gt-MOST-KEPT .came) [
+      | then-count-gt-MOST-KEPT·by·then-count-gt-MOST-KEPT w ↦ sym (cond-false _ _ _ (kept-long n t ks (w .if-count-gt-MOST-KEPT .taken)))
+      | then-count-gt-MOST-KEPT·by·else-count-gt-MOST-KEPT·then-not-has-room w ↦ appends-short used _ page (keptBytes n t ks) (bytes-length n t ks) (w .if-not-has-room .ensures tt) ∙ sym (cond-true _ _ _ (kept-fits n t ks (w .if-count-gt-MOST-KEPT .left)))
     ]
 
 pub loop-n-holds : need.loop-n-holds
@@ -78,4 +80,4 @@ returns c =
     let three : c .put-3 .last .page ≡ written used page ((a ++ b) ++ d) = put-after used (used + 16) page _ _ (a ++ b) d _ two (c .put-3 .ensures) (c .total-field-2 .ensures) refl (omega arith) in
     let four : c .loop-n .page ≡ written used page (((a ++ b) ++ d) ++ k) = put-after used (used + 24) page _ _ ((a ++ b) ++ d) k k three (c .loop-n .inv .1 ∙ ap (λ l. written (used + 24) (c .put-3 .last .page) (joined (le 2) l)) all) refl refl (omega arith) in
     let bytes : c .loop-n .page ≡ written used page (keptBytes n t ks) = four ∙ sym (ap (λ m. written used page (le 2 m ++ (le 2 5 ++ keptPayload n t ks))) long) in
-    appends-fits used (24 + 2 * length ks) page (keptBytes n t ks) (bytes-length n t ks) (c .loop-n .at) (c .loop-n .page) (c .if-not-has-room .ensures tt) (omega arith) bytes ∙ sym (cond-true _ _ _ (kept-fits n t ks (c .if-count-gt32757 .left)))
+    appends-fits used (24 + 2 * length ks) page (keptBytes n t ks) (bytes-length n t ks) (c .loop-n .at) (c .loop-n .page) (c .if-not-has-room .ensures tt) (omega arith) bytes ∙ sym (cond-true _ _ _ (kept-fits n t ks (c .if-count-gt-MOST-KEPT .left)))
