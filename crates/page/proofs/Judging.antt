@@ -16,8 +16,8 @@ use Rattle.std.proofs.shelf.Elements.{all-push}
 use Rattle.refusal.specs.declared.Told.{Told}
 use Rattle.page.specs.declared.fault.PageCause.{PageCause}
 use Rattle.page.specs.declared.fault.PageCause.the-variants.{CutRecord, OutOfPlace, WrongCode}
-use Rattle.page.specs.declared.kinds.Mark.{Mark}
-use Rattle.page.specs.declared.kinds.Mark.the-variants.{Plain, Corner}
+use Rattle.tray.specs.declared.point.Mark.{Mark}
+use Rattle.tray.specs.declared.point.Mark.the-variants.{Plain, Corner}
 use Rattle.page.specs.declared.kinds.Point.{Point}
 use Rattle.page.specs.declared.kinds.Order.{Order}
 use Rattle.page.specs.declared.kinds.Part.{Part}

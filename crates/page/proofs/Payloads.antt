@@ -12,7 +12,7 @@ use Rattle.std.specs.shelf.Lists.{All}
 use Rattle.std.proofs.shelf.Lists.{drop-drop}
 use Rattle.std.proofs.shelf.Elements.{all-take, all-drop}
 use Rattle.std.proofs.shelf.Signed.{ofZ-toZ}
-use Rattle.page.specs.declared.kinds.Mark.{Mark}
+use Rattle.tray.specs.declared.point.Mark.{Mark}
 use Rattle.page.specs.Little.{le, unle}
 use Rattle.page.specs.Strokes.{pointPayload, orderPayload, pointOf, orderOf}
 use Rattle.page.specs.Fits.{Byte, PointFits}

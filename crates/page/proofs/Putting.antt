@@ -13,8 +13,8 @@ use Rattle.std.specs.declared.result.Result.the-variants.{Ok}
 use Rattle.std.proofs.shelf.Tests.{cond-true, cond-false}
 use Rattle.std.proofs.shelf.Lists.{take-at, drop-at, drop-drop, take-more, joined-more}
 use Rattle.page.specs.declared.fault.PageCause.the-variants.{ShortPage}
-use Rattle.page.specs.declared.kinds.Mark.{Mark}
-use Rattle.page.specs.declared.kinds.Mark.the-variants.{Plain, Corner}
+use Rattle.tray.specs.declared.point.Mark.{Mark}
+use Rattle.tray.specs.declared.point.Mark.the-variants.{Plain, Corner}
 use Rattle.page.specs.declared.kinds.Point.{Point}
 use Rattle.page.specs.Little.{le}
 use Rattle.page.specs.Records.{recordBytes}

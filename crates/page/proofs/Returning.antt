@@ -14,8 +14,8 @@ use Rattle.std.specs.shelf.Lists.{All}
 use Rattle.std.specs.declared.result.Result.the-variants.{Ok, Err}
 use Rattle.std.proofs.shelf.Tests.{cond-true}
 use Rattle.std.proofs.shelf.Signed.{toZ-ofZ}
-use Rattle.page.specs.declared.kinds.Mark.{Mark}
-use Rattle.page.specs.declared.kinds.Mark.the-variants.{Plain, Corner}
+use Rattle.tray.specs.declared.point.Mark.{Mark}
+use Rattle.tray.specs.declared.point.Mark.the-variants.{Plain, Corner}
 use Rattle.page.specs.declared.kinds.Point.{Point}
 use Rattle.page.specs.declared.kinds.Order.{Order}
 use Rattle.page.specs.declared.kinds.Step.{Step}

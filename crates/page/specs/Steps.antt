@@ -28,7 +28,7 @@ use Rattle.std.specs.declared.result.Result.{Result}
 use Rattle.std.specs.declared.result.Result.the-variants.{Ok, Err}
 use Rattle.refusal.specs.declared.Told.{Told}
 use Rattle.page.specs.declared.fault.PageCause.the-variants.{OutOfPlace, WrongCode}
-use Rattle.page.specs.declared.kinds.Mark.the-variants.{Plain, Corner}
+use Rattle.tray.specs.declared.point.Mark.the-variants.{Plain, Corner}
 use Rattle.page.specs.declared.kinds.Point.{Point}
 use Rattle.page.specs.declared.kinds.Order.{Order}
 use Rattle.page.specs.declared.kinds.Part.{Part}

@@ -21,8 +21,8 @@ use lib.ListN.{take, drop}
 use mir.Syntax.{w16}
 use mir.Val.{ofZ, toZ}
 use Rattle.std.specs.Joined.{joined}
-use Rattle.page.specs.declared.kinds.Mark.{Mark}
-use Rattle.page.specs.declared.kinds.Mark.the-variants.{Plain, Corner}
+use Rattle.tray.specs.declared.point.Mark.{Mark}
+use Rattle.tray.specs.declared.point.Mark.the-variants.{Plain, Corner}
 use Rattle.page.specs.declared.kinds.Point.{Point}
 use Rattle.page.specs.declared.kinds.Order.{Order}
 use Rattle.page.specs.Little.{le, unle}

@@ -6,9 +6,9 @@ ghost use mir.Syntax.{w16};
 ghost use mir.Val.{toZ};
 ghost use Rattle.page.specs.Little.{unle};
 ghost use Rattle.page.specs.Strokes.{pointOf, orderOf};
-use crate::kinds::Mark;
 use crate::kinds::Order;
 use crate::kinds::Point;
+use tray::point::Mark;
 
 fn i16_at(p: &[u8], i: usize) -> i16
     requires { ⌜ i + 2 ≤ length (now p) ⌝ }

@@ -9,9 +9,9 @@ ghost use Rattle.page.specs.Little.{le};
 ghost use Rattle.page.specs.Answers.{refusedBytes};
 ghost use Rattle.page.specs.Fits.{PointFits};
 ghost use Rattle.page.specs.Writes.{written};
-use crate::kinds::Mark;
 use crate::kinds::Order;
 use crate::kinds::Point;
+use tray::point::Mark;
 
 pub(crate) fn start_record(number: u32) -> [u8; 8]
     ensures { λ r. ⌜ r ≡ startBytes number ⌝ }

@@ -1,6 +1,9 @@
 // What the records of a page hold, and what a walk tells of them.
 ghost use mathlib.Core.Path.{_≡_};
 ghost use Rattle.page.specs.Strokes.{code, codes};
+use tray::point::Mark;
+use tray::point::MarkDebug;
+use tray::point::MarkPartialEq;
 
 // A record by its kind, with its payload, which is still a part of the page.
 #[derive(Clone, Copy)]
@@ -16,12 +19,6 @@ pub enum Record<'a> {
 pub struct Placed<'a> {
     pub record: Record<'a>,
     pub place: usize,
-}
-
-#[derive(Clone, Copy, Debug, PartialEq, Eq)]
-pub enum Mark {
-    Plain,
-    Corner,
 }
 
 #[derive(Clone, Copy, Debug, PartialEq, Eq)]

@@ -17,13 +17,13 @@ use crate::fault::PageCause;
 use crate::fault::PageFault;
 use crate::fault::StepFault;
 use crate::fault::StepFromPage;
-use crate::kinds::Mark;
 use crate::kinds::Part;
 use crate::kinds::Placed;
 use crate::kinds::Record;
 use crate::kinds::Step;
 use crate::record::first_record;
 use crate::walk::Walk;
+use tray::point::Mark;
 
 // What a record says between strokes or inside one.
 fn meaning(p: Placed, part: Part) -> Result<Step, PageFault>

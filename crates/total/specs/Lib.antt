@@ -2,3 +2,4 @@ pub mod Laws
 pub mod Kinds
 pub mod Pairs
 pub mod Unlawful
+pub mod Whole

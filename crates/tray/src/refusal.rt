@@ -1,5 +1,6 @@
 // Why a call on a tray is refused.
 ghost use mathlib.Core.Path.{_≡_};
+ghost use Prim.Native.Nat.{_<_};
 ghost use Rattle.tray.specs.Refusals.{told as told-of};
 use refusal::Layer;
 use refusal::Told;
@@ -23,6 +24,7 @@ pub enum Refusal {
 fn at(number: u16, place: u16) -> Told
     ensures number { λ r. ⌜ r .number ≡ number ⌝ }
     ensures place { λ r. ⌜ r .place ≡ place ⌝ }
+    ensures near { λ r. ⌜ r .place < 65536 ⌝ }
     ensures layer { λ r. ⌜ r .layer ≡ Layer.Tray ⌝ }
 {
     Told {
@@ -35,7 +37,8 @@ fn at(number: u16, place: u16) -> Told
 impl Refusal {
     // The number, the place and the layer that the refusal tells.
     pub fn told(self) -> Told
-        ensures { λ r. ⌜ r ≡ told-of self ⌝ }
+        ensures value { λ r. ⌜ r ≡ told-of self ⌝ }
+        ensures near { λ r. ⌜ r .place < 65536 ⌝ }
     {
         match self {
             Refusal::OffSheet(place) => at(1, place),

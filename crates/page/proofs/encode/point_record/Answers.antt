@@ -7,8 +7,8 @@ use borrow.Author.Needs.{needs}
 use mir.Syntax.{w16}
 use mir.Val.{ofZ, SFits}
 use Rattle.std.proofs.shelf.Signed.{toZ-ofZ}
-use Rattle.page.specs.declared.kinds.Mark.{Mark}
-use Rattle.page.specs.declared.kinds.Mark.the-variants.{Plain, Corner}
+use Rattle.tray.specs.declared.point.Mark.{Mark}
+use Rattle.tray.specs.declared.point.Mark.the-variants.{Plain, Corner}
 use Rattle.page.specs.declared.kinds.Point.{Point}
 use Rattle.page.specs.Records.{recordBytes}
 use Rattle.page.specs.Strokes.{markKind, pointPayload, pointBytes}

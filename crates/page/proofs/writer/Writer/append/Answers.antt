@@ -13,7 +13,7 @@ use Rattle.std.proofs.shelf.Tests.{cond-true}
 use Rattle.std.proofs.shelf.Lists.{take-all}
 use Rattle.std.specs.shelf.Lists.{All}
 use Rattle.std.proofs.shelf.Elements.{all-more, all-from-getD}
-use Rattle.page.specs.declared.kinds.Mark.the-variants.{Plain}
+use Rattle.tray.specs.declared.point.Mark.the-variants.{Plain}
 use Rattle.page.specs.declared.kinds.Point.{Point}
 use Rattle.page.specs.Strokes.{Stroke, strokeOf, startBytes, pointBytes, orderBytes, strokeBytes}
 use Rattle.page.specs.Fits.{Byte, PointFits, StrokeFits}

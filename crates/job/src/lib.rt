@@ -1,0 +1,4 @@
+// The job: a page of strokes is read, and each stroke is answered by one record on an answer page.
+pub mod figures;
+pub mod found;
+mod keep;
