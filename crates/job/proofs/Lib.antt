@@ -1,1 +1,4 @@
 pub mod Codes
+pub mod Puts
+pub mod Opens
+pub mod Markings

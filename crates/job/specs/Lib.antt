@@ -1,2 +1,4 @@
 pub mod Figures
 pub mod Answer
+pub mod Open
+pub mod Marking

@@ -2,3 +2,6 @@
 pub mod figures;
 pub mod found;
 mod keep;
+mod marking;
+mod open;
+mod points;
