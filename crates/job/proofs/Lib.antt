@@ -2,3 +2,4 @@ pub mod Codes
 pub mod Puts
 pub mod Opens
 pub mod Markings
+pub mod Steps

@@ -2,3 +2,5 @@ pub mod Figures
 pub mod Answer
 pub mod Open
 pub mod Marking
+pub mod Reads
+pub mod Whole

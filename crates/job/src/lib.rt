@@ -1,7 +1,10 @@
 // The job: a page of strokes is read, and each stroke is answered by one record on an answer page.
 pub mod figures;
 pub mod found;
+mod inner;
 mod keep;
 mod marking;
 mod open;
 mod points;
+mod reads;
+mod whole;
