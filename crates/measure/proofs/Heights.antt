@@ -14,7 +14,7 @@ use Rattle.tray.specs.declared.point.Point.{Point}
 use Rattle.tray.specs.Stroke.{numbered, Lawful}
 use Rattle.measure.specs.Chords.{On, Chord}
 use Rattle.measure.specs.Between.{gathered}
-use Rattle.measure.specs.Steps.{square, rounded-up, cross, dot}
+use Rattle.measure.specs.Steps.{rounded-up, cross, dot}
 use Rattle.measure.specs.Distance.{off, off-at, distance-error}
 use Rattle.measure.specs.declared.distance.Side.the-variants.{Past, Along}
 use Rattle.measure.specs.Sides.{sided, past, along, past-at, along-at, risen}

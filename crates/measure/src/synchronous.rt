@@ -7,6 +7,7 @@ ghost use Rattle.tray.specs.Trays.{stroke as stroke-of};
 ghost use Rattle.measure.specs.Chords.{Placed, On, Chord};
 ghost use Rattle.measure.specs.Steps.{square, rounded-up};
 ghost use Rattle.measure.specs.Synchronous.{lag, lags, synchronous, synchronous-error, Least-synchronous};
+use crate::arith::difference;
 use crate::arith::product;
 use crate::arith::step;
 use crate::chord::is_chord;
@@ -28,7 +29,7 @@ fn lag_of(from: i32, here: i32, to: i32, part: u32, whole: u32) -> i32
 {
     let on = step(from, here);
     let along = step(from, to);
-    product(on, whole as i32) - product(part as i32, along)
+    difference(product(on, whole as i32), product(part as i32, along))
 }
 
 // A square, by a cast: with `unsigned_abs` the widening keeps a negation and a choice in the loop.
