@@ -32,7 +32,7 @@ lag-parts u w τ σ f g =
     let d : down u + up w ≤ 8191 + up u + down w = omega (arith, ints) in
     omega (arith, ints, mul-le-mul-right σ a, mul-le-mul-right σ b, mul-le-mul-right τ c, mul-le-mul-right τ d)
 
--- the even pen is between the ends, so no point on the sheet is further from it than the sheet is wide
+-- the chord's place is between its ends, so no point on the sheet is further from it than the sheet is wide
 pub lag-small : (from here to : ℤ) (part whole : ℕ) → Placed from → Placed here → Placed to → part ≤ whole → natAbs (lag from here to part whole) ≤ 8191 * whole
 lag-small from here to part whole f g h l =
     let near : natAbs ((here -ℤ from) -ℤ (to -ℤ from)) ≤ 8191 = omega (arith, ints) in
@@ -101,5 +101,5 @@ least-synchronous ps i j l e q =
     let some = some-time ps i j l (a .0) in
     record {
       serves = subst (λ (n : ℕ). all-lags ps i j ≤ n * w) (a .1) (rounded-serves (all-lags ps i j) w some);
-      below-none = λ f h. omega (arith, a .1, rounded-least (all-lags ps i j) w f some h);
+      no-lesser = λ f h. omega (arith, a .1, rounded-least (all-lags ps i j) w f some h);
     }

@@ -1,4 +1,4 @@
-// The synchronous measure: how far the points are from a pen that runs evenly along the chord, each at its own time.
+// The synchronous measure: how far the points are from where the chord has come at their times, if it is run through evenly.
 ghost use mathlib.Core.Path.{_≡_};
 ghost use Prim.Native.Nat.{_+_, _*_, _<_, _≤_};
 ghost use lib.IntN.{natAbs};
@@ -18,7 +18,7 @@ use tray::tray::Lifted;
 #[derive(Clone, Copy)]
 pub struct Synchronous;
 
-// How far a point at the time part is from the even pen in one coordinate, times whole.
+// How far a point is from the chord's place at the time part, in one coordinate, times whole.
 fn lag_of(from: i32, here: i32, to: i32, part: u32, whole: u32) -> i32
     requires from { ⌜ Placed from ⌝ }
     requires here { ⌜ Placed here ⌝ }
