@@ -2,6 +2,7 @@
 --   put-after-all ps qs   the points ps, and after them the places qs put in turn; a refused one is left out
 --   put-in-turn           the same on a bare tray
 --   counted               an answered error, or 0 where the chord is barred
+--   counted-at m ps j i   the same at the chord from i to j
 --   errors-to m ps j      the sum of the errors of the chords to the point j
 --   every-error m ps      the sum of the errors of all chords
 use Prim.Native.Nat.{ℕ, _+_, _-_}

@@ -63,6 +63,7 @@ fn every_chord<M: Measure>(measure: &M, stroke: &Lifted) -> u64
     sum
 }
 
+// The sum of the synchronous errors of all chords.
 #[unsafe(no_mangle)]
 pub extern "C" fn chords_synchronous(places: &[Place]) -> u64
     ensures { λ r. ⌜ r ≡ every-error synchronous (put-in-turn (now (places .entry))) ⌝ }
@@ -70,6 +71,7 @@ pub extern "C" fn chords_synchronous(places: &[Place]) -> u64
     every_chord(&Synchronous, &drawn(places))
 }
 
+// The sum of the distance errors of all chords.
 #[unsafe(no_mangle)]
 pub extern "C" fn chords_distance(places: &[Place]) -> u64
     ensures { λ r. ⌜ r ≡ every-error distance (put-in-turn (now (places .entry))) ⌝ }
@@ -77,6 +79,7 @@ pub extern "C" fn chords_distance(places: &[Place]) -> u64
     every_chord(&Distance, &drawn(places))
 }
 
+// The sum of the area errors of all chords.
 #[unsafe(no_mangle)]
 pub extern "C" fn chords_area(places: &[Place]) -> u64
     ensures { λ r. ⌜ r ≡ every-error area (put-in-turn (now (places .entry))) ⌝ }

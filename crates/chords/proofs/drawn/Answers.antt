@@ -26,7 +26,8 @@ loop-p-again c =
     let d : drop n qs ≡ q ∷ drop (n + 1) qs = rw add-one (drop-cons qs n (record { x = pos 0; y = pos 0; t = 0 }) (c .loop-p-test .taken)) in
     let fx : SFits w32 (q .x) = search needs in
     let fy : SFits w32 (q .y) = search needs in
-    let s : writing (c .put .last .self) .points ≡ put-after (writing (c .loop-p .tray) .points) (q .x) (q .y) (q .t) = simp toZ-ofZ at (ap (λ (s : State). s .points) (c .put .ensures .steps)) in
+    let e = simp toZ-ofZ at (ap (λ (s : State). s .points) (c .put .ensures .steps)) in
+    let s : writing (c .put .last .self) .points ≡ put-after (writing (c .loop-p .tray) .points) (q .x) (q .y) (q .t) = cc in
     ap (λ (ps : List Point). put-after-all ps (drop (n + 1) qs)) s ∙ (sym (ap (put-after-all (writing (c .loop-p .tray) .points)) d) ∙ c .loop-p .inv)
 
 pub returns : need.returns

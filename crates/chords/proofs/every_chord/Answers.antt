@@ -12,7 +12,7 @@ use Rattle.chords.proofs.every_chord.Needs as need
 pub loop-j-again : need.loop-j-again
 loop-j-again g c =
     let f = errors-to (g .M·Measure .meaning (c .args .measure .now)) (stroke (c .args .stroke .now)) in
-    let e = next-term f (c .loop-j .j) (c .loop-j .kept .j) in
+    let e = next-term f (c .loop-j .j) (omega arith) in
     omega (arith, e, c .to-point-sum .ensures, c .loop-j .inv)
 
 pub add-sum : need.add-sum
@@ -23,4 +23,4 @@ add-sum g c =
     let j = c .loop-j .j in
     let few : j ≤ 512 = omega (arith, c .points-n .ensures .lawful .few, c .loop-j-test .taken) in
     let a = all-small m ps lim (j + 1 - 1) (omega arith) in
-    record { fits = omega (arith, a, next-term (errors-to m ps) j (c .loop-j .kept .j), c .to-point-sum .ensures, c .loop-j .inv) }
+    record { fits = omega (arith, a, next-term (errors-to m ps) j (omega arith), c .to-point-sum .ensures, c .loop-j .inv) }

@@ -24,7 +24,7 @@ add-sum g c =
 pub loop-i-again : need.loop-i-again
 loop-i-again g c =
     let f = counted-at (g .M·Measure .meaning (c .args .measure .now)) (stroke (c .args .stroke .now)) (c .args .j) in
-    let e = next-term f (c .loop-i .i) (c .loop-i .kept .i) in
+    let e = next-term f (c .loop-i .i) (omega arith) in
     let h : counted (c .error .result) ≡ f (c .loop-i .i) = ap counted (c .error .ensures) in
     elim (c .match-error .came) [
       | in-Some w ↦ (let k = ap counted (w .in-Some .is) in omega (arith, e, h, k, w .sum-is, c .loop-i .inv))
