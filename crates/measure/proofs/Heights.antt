@@ -14,16 +14,33 @@ use Rattle.tray.specs.declared.point.Point.{Point}
 use Rattle.tray.specs.Stroke.{numbered, Lawful}
 use Rattle.measure.specs.Chords.{On, Chord}
 use Rattle.measure.specs.Between.{gathered}
-use Rattle.measure.specs.Steps.{square, rounded-up, cross, dot}
+use Rattle.measure.specs.Steps.{rounded-up, cross, dot}
 use Rattle.measure.specs.Distance.{off, off-at, distance-error}
+use Rattle.measure.specs.declared.distance.Side.{Side}
 use Rattle.measure.specs.declared.distance.Side.the-variants.{Past, Along}
-use Rattle.measure.specs.Sides.{sided, past, along, past-at, along-at, risen}
+use Rattle.measure.specs.Sides.{sided, risen}
 use Rattle.measure.proofs.Ints.{abs-product}
 use Rattle.measure.proofs.Runs.{greatest-small}
 use Rattle.measure.proofs.Rounded.{rounded-least, rounded-serves}
 use Rattle.measure.proofs.Points.{on}
 use Rattle.measure.proofs.Swept.{cross-small}
 use Rattle.measure.proofs.Offs.{inside}
+
+-- ---- the two numbers of a side, 0 where the point has the other
+
+abbrev pub past : Side → ℕ
+past (Past d) = d
+past (Along c) = 0
+
+abbrev pub along : Side → ℕ
+along (Past d) = 0
+along (Along c) = c
+
+abbrev pub past-at : List Point → ℕ → ℕ → ℕ → ℕ
+past-at ps i j k = past (sided (numbered ps i) (numbered ps j) (numbered ps k))
+
+abbrev pub along-at : List Point → ℕ → ℕ → ℕ → ℕ
+along-at ps i j k = along (sided (numbered ps i) (numbered ps j) (numbered ps k))
 
 -- ---- rounding up
 

@@ -1,14 +1,13 @@
--- Products and squares of numbers with signs, and steps and products of 32 bits past their casts.
-use Prim.Native.Nat.{ℕ, suc, _+_, _*_, _^_, _≤_, _<_}
+-- Products and squares of numbers with signs, and numbers of 32 bits past their casts.
+use Prim.Native.Nat.{ℕ, suc, _*_, _^_, _≤_, _<_}
 use mathlib.Core.Path.{_≡_, refl}
 use native.Mathlib.Omega.{arith}
-use lib.IntN.{ℤ, pos, negsuc, _+ℤ_, _-ℤ_, _*ℤ_, negℤ, natAbs}
+use lib.IntN.{ℤ, pos, negsuc, _*ℤ_, negℤ, natAbs}
 use borrow.Author.Differences.{ints}
 use Rattle.std.proofs.shelf.Bits.{mul-le}
 use Rattle.std.proofs.shelf.Signed.{toZ-ofZ}
 use mir.Syntax.{w32, w64}
 use mir.Val.{SFits, toZ, ofZ}
-use Rattle.measure.specs.Chords.{Placed}
 use Rattle.measure.specs.Steps.{square}
 
 -- ---- products and squares
@@ -41,37 +40,6 @@ pub fits64 : (z : ℤ) → natAbs z < 2 ^ 63 → SFits w64 z
 fits64 z h = omega (arith, ints)
 
 -- ---- past the casts
-
-pub stepped : (r a b : ℤ) → Placed a → Placed b → r ≡ toZ w32 (ofZ w32 b) -ℤ toZ w32 (ofZ w32 a) → r ≡ b -ℤ a
-stepped r a b f g e = omega (arith, ints)
-
--- a product of two steps x and y that are a and b
-pub multiplied : (r x y a b : ℤ) → natAbs x ≤ 8191 → natAbs y ≤ 8191 → x ≡ a → y ≡ b → r ≡ toZ w32 (ofZ w32 x) *ℤ toZ w32 (ofZ w32 y) → r ≡ a *ℤ b
-multiplied r x y a b f g p q e =
-    let h : SFits w32 x = fits32 x (omega arith) in
-    let k : SFits w32 y = fits32 y (omega arith) in
-    let d : r ≡ x *ℤ y = simp toZ-ofZ at e in
-    cc
-
--- the difference and the sum of two products r and s that are a and b
-module _ (r s : ℤ) (f : natAbs r ≤ 8191 * 8191) (g : natAbs s ≤ 8191 * 8191) where
-  pub subtracted : (a b : ℤ) → r ≡ a → s ≡ b → toZ w32 (ofZ w32 (toZ w32 (ofZ w32 r) -ℤ toZ w32 (ofZ w32 s))) ≡ a -ℤ b
-  subtracted a b p q = omega (arith, ints)
-
-  pub added : (a b : ℤ) → r ≡ a → s ≡ b → toZ w32 (ofZ w32 (toZ w32 (ofZ w32 r) +ℤ toZ w32 (ofZ w32 s))) ≡ a +ℤ b
-  added a b p q = omega (arith, ints)
-
-  pub sub-fits : SFits w32 (toZ w32 (ofZ w32 r) -ℤ toZ w32 (ofZ w32 s))
-  sub-fits = omega (arith, ints)
-
-  pub add-fits : SFits w32 (toZ w32 (ofZ w32 r) +ℤ toZ w32 (ofZ w32 s))
-  add-fits = omega (arith, ints)
-
-  pub sub-small : natAbs (toZ w32 (ofZ w32 (toZ w32 (ofZ w32 r) -ℤ toZ w32 (ofZ w32 s)))) ≤ 2 * (8191 * 8191)
-  sub-small = omega (arith, ints)
-
-  pub add-small : natAbs (toZ w32 (ofZ w32 (toZ w32 (ofZ w32 r) +ℤ toZ w32 (ofZ w32 s)))) ≤ 2 * (8191 * 8191)
-  add-small = omega (arith, ints)
 
 -- the size of r that is d
 pub stripped : (r d : ℤ) (n : ℕ) → natAbs r ≤ 2 * (8191 * 8191) → n ≡ natAbs (toZ w32 (ofZ w32 r)) → r ≡ d → n ≡ natAbs d

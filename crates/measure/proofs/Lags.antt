@@ -1,16 +1,15 @@
 -- How large lags are, alone and together, and that the synchronous error is the least that serves.
 use Prim.Native.Nat.{ℕ, _+_, _-_, _*_, _^_, _≤_, _<_}
-use mathlib.Core.Path.{_≡_, sym, ap, _∙_, subst}
+use mathlib.Core.Path.{_≡_, ap, _∙_, subst}
 use mathlib.Core.List.{List}
 use native.Mathlib.Nat.{mul-le-mul-right, mul-pos}
 use native.Mathlib.Omega.{arith}
 use lib.IntN.{ℤ, pos, _-ℤ_, _*ℤ_, natAbs}
-use lib.ListN.{length}
 use borrow.Author.Differences.{ints, up, down}
 use Rattle.std.proofs.shelf.Bits.{mul-le}
-use Rattle.std.proofs.shelf.Signed.{toZ-ofZ, toZ-pos}
+use Rattle.std.proofs.shelf.Signed.{toZ-ofZ}
 use mir.Syntax.{w32, w64}
-use mir.Val.{SFits, toZ, ofZ}
+use mir.Val.{toZ, ofZ}
 use Rattle.tray.specs.declared.point.Point.{Point}
 use Rattle.tray.specs.Stroke.{numbered, Lawful}
 use Rattle.total.specs.Laws.{limit}
@@ -33,7 +32,7 @@ lag-parts u w τ σ f g =
     let d : down u + up w ≤ 8191 + up u + down w = omega (arith, ints) in
     omega (arith, ints, mul-le-mul-right σ a, mul-le-mul-right σ b, mul-le-mul-right τ c, mul-le-mul-right τ d)
 
--- the even pen is between the ends, so no point on the sheet is further from it than the sheet is wide
+-- the chord's place is between its ends, so no point on the sheet is further from it than the sheet is wide
 pub lag-small : (from here to : ℤ) (part whole : ℕ) → Placed from → Placed here → Placed to → part ≤ whole → natAbs (lag from here to part whole) ≤ 8191 * whole
 lag-small from here to part whole f g h l =
     let near : natAbs ((here -ℤ from) -ℤ (to -ℤ from)) ≤ 8191 = omega (arith, ints) in
@@ -42,31 +41,6 @@ lag-small from here to part whole f g h l =
     (lag-parts (here -ℤ from) (to -ℤ from) part (whole - part) (step-small from here f g) near)
 
 -- ---- past the casts
-
-pub time-small : (n : ℕ) → n ≤ 8191 → natAbs (toZ w32 n) ≤ 8191
-time-small n h =
-    let l : n < 2 ^ 31 = omega arith in
-    let e : toZ w32 n ≡ pos n = toZ-pos w32 n l in
-    rw e h
-
-pub cast-small : (a : ℤ) → natAbs a ≤ 8191 → natAbs (toZ w32 (ofZ w32 a)) ≤ 8191
-cast-small a h =
-    let f : SFits w32 a = fits32 a (omega arith) in
-    simp toZ-ofZ h
-
--- a step x that is a, by a time n
-module _ (r x a : ℤ) (n : ℕ) (h : natAbs x ≤ 8191) (k : n ≤ 8191) (e : x ≡ a) where
-  time : toZ w32 n ≡ pos n
-  time = let l : n < 2 ^ 31 = omega arith in toZ-pos w32 n l
-
-  cast : toZ w32 (ofZ w32 x) ≡ x
-  cast = let s : SFits w32 x = fits32 x (omega arith) in toZ-ofZ w32 x s
-
-  pub step-by-time : r ≡ toZ w32 (ofZ w32 x) *ℤ toZ w32 n → r ≡ a *ℤ pos n
-  step-by-time f = let g = time in let t = cast in cc
-
-  pub time-by-step : r ≡ toZ w32 n *ℤ toZ w32 (ofZ w32 x) → r ≡ pos n *ℤ a
-  time-by-step f = let g = time in let t = cast in cc
 
 placed-cast : (z : ℤ) → Placed z → toZ w32 (ofZ w32 z) ≡ z
 placed-cast z h = toZ-ofZ w32 z (fits32 z (omega (arith, ints)))
@@ -127,5 +101,5 @@ least-synchronous ps i j l e q =
     let some = some-time ps i j l (a .0) in
     record {
       serves = subst (λ (n : ℕ). all-lags ps i j ≤ n * w) (a .1) (rounded-serves (all-lags ps i j) w some);
-      below-none = λ f h. omega (arith, a .1, rounded-least (all-lags ps i j) w f some h);
+      no-lesser = λ f h. omega (arith, a .1, rounded-least (all-lags ps i j) w f some h);
     }

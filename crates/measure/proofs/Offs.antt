@@ -147,7 +147,7 @@ least-distance ps i j e t =
       serves = λ k f g. let m = numbered ps k in
           reach (dot p m q) (dot p q q) (dot p m m) (dot q m m) (cross p q m) e
           (omega (arith, v .1, greatest-reached (off-at ps i j) (i + 1) (j - (i + 1)) k (omega arith) (omega arith)));
-      below-none = λ d r. let b = greatest-small (off-at ps i j) (i + 1) (j - (i + 1)) d
+      no-lesser = λ d r. let b = greatest-small (off-at ps i j) (i + 1) (j - (i + 1)) d
           (λ k f g. let m = numbered ps k in
           least (dot p m q) (dot p q q) (dot p m m) (dot q m m) (cross p q m) d (own p m) (own q m) (own p q) (r k (omega arith) (omega arith))) in
           omega (arith, v .1, b);

@@ -1,14 +1,13 @@
 -- What the limits of a stroke say of the points of a chord.
-use Prim.Native.Nat.{ℕ, _+_, _-_, _*_, _≤_, _<_}
+use Prim.Native.Nat.{ℕ, _+_, _-_, _≤_, _<_}
 use mathlib.Core.Path.{_≡_, sym, ap, subst}
-use mathlib.Core.Bool.{true}
+use mathlib.Core.Bool.{true, _&&_}
 use mathlib.Core.List.{List}
 use mathlib.Core.Logic.{⊎-elim}
 use native.Mathlib.Omega.{arith}
 use lib.Dec.{leb, ltb}
 use lib.IntN.{ℤ, _-ℤ_, natAbs}
 use lib.ListN.{length}
-use mathlib.Core.Bool.{_&&_}
 use borrow.Author.Differences.{ints}
 use Rattle.std.proofs.shelf.Tests.{cases-lt, and-parts, leb-true, ltb-true, le-leb, lt-ltb}
 use Rattle.tray.specs.declared.point.Point.{Point}

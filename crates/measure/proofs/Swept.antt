@@ -3,8 +3,7 @@ use Prim.Native.Nat.{ℕ, _+_, _-_, _*_, _≤_, _<_}
 use mathlib.Core.Path.{_≡_, ap, _∙_}
 use mathlib.Core.List.{List}
 use native.Mathlib.Omega.{arith}
-use lib.IntN.{ℤ, pos, _+ℤ_, _-ℤ_, natAbs}
-use lib.ListN.{length}
+use lib.IntN.{pos, _+ℤ_, _-ℤ_, natAbs}
 use borrow.Author.Differences.{ints}
 use Rattle.tray.specs.declared.point.Point.{Point}
 use Rattle.tray.specs.Stroke.{at, numbered, Lawful}

@@ -1,7 +1,8 @@
--- The area measure: what the stroke sweeps as seen from the chord's start, turns to the left against turns to the right.
---   turn ps i m   the step from the point i to the point m, cross the step to the point m + 1
---   swept         the sum of the turns from i + 1 to j − 1
---   area          that sum without its sign
+-- The area measure: twice the area between the stroke and the chord, where what lies on its two sides counts against each other.
+--   turn ps i m   the step from the point i to the point m, cross the step from i to the point m + 1
+--   swept         the sum of the turns for m from i + 1 to j − 1
+--   area-error    that sum without its sign
+--   area          the bare measure with that error
 use Prim.Native.Nat.{ℕ, _+_}
 use mathlib.Core.List.{List}
 use lib.IntN.{ℤ, natAbs}

@@ -1,6 +1,8 @@
 -- The distance measure: the square of a point's distance to the segment that the chord draws.
---   off p q k        that square for the point k and the segment from p to q, rounded up: by the start, by the end, or from the side
---   distance         the greatest over the points strictly between i and j
+--   off p q k        that square for the point k and the segment from p to q, rounded up: to its start, to its end, or to its side
+--   off-at           the same by numbers: for the point k and the chord from i to j
+--   distance-error   the greatest over the points strictly between i and j
+--   distance         the bare measure with that error
 --   Reaches p q k e  e is not below the square of the distance from k to the segment, with nothing rounded
 --   Reaches-all      so for each point strictly between i and j
 --   Least-distance   an answered error is the least whole number that reaches all

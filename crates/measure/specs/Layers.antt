@@ -1,5 +1,6 @@
 -- Layers: each bars some chords, and passes on the answer from below for the others.
 --   barring b o     no answer where b holds, else the answer o from below
+--   is-corner       whether a mark is a corner's
 --   corner-at       whether the point k is a corner
 --   cornered        whether a corner stands strictly between i and j
 --   overlong s      whether the time from i to j is above s

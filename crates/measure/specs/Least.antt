@@ -8,7 +8,7 @@ use Rattle.std.specs.declared.option.Option.the-variants.{Some}
 
 pub record Least (Serves : ℕ → Type 0) (e : ℕ) : Type 0 where
   pub serves : Serves e
-  pub below-none : (f : ℕ) → Serves f → e ≤ f
+  pub no-lesser : (f : ℕ) → Serves f → e ≤ f
 
 abbrev pub Answers-least : (ℕ → Type 0) → Option ℕ → Type 0
 Answers-least Serves o = (e : ℕ) → o ≡ Some e → Least Serves e

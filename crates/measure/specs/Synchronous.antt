@@ -1,9 +1,11 @@
--- The synchronous measure: where a pen that runs evenly along the chord is at a point's time, beside where the point is.
---   lag              (at − from)·whole − part·(to − from): how far a point at the time part is from such a pen, times whole
---   lags p q k       the squares of the lags of k in both coordinates, on the chord from p to q
---   all-lags         their sum over the points strictly between i and j
---   synchronous      that sum over the square of the time from i to j, rounded up
---   Enough ps i j e  the sum is at most e times that square
+-- The synchronous measure: how far points are from where the chord has come at their times, if it is run through evenly.
+--   lag                 (at − from)·whole − part·(to − from): from the chord's place at the time part to the point, times whole
+--   lags p q k          the squares of the lags of k in both coordinates, on the chord from p to q
+--   lags-at             the same by numbers: of the point k on the chord from i to j
+--   all-lags            their sum over the points strictly between i and j
+--   synchronous-error   that sum over the square of the time from i to j, rounded up
+--   synchronous         the bare measure with that error
+--   Enough ps i j e     the sum is at most e times that square
 --   Least-synchronous   an answered error is the least whole number that is enough
 use Prim.Native.Nat.{ℕ, _+_, _-_, _*_, _≤_}
 use mathlib.Core.List.{List}

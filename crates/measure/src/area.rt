@@ -1,4 +1,4 @@
-// The area measure: the area that the stroke sweeps off a chord.
+// The area measure: twice the area between the stroke and the chord.
 ghost use mathlib.Core.Path.{_≡_};
 ghost use Rattle.tray.specs.Stroke.{Lawful};
 ghost use Rattle.measure.specs.Chords.{Chord};
@@ -12,7 +12,7 @@ use tray::tray::Lifted;
 #[derive(Clone, Copy)]
 pub struct Area;
 
-// The sum of the turns that the stroke takes between i and j as seen from i, without its sign.
+// The sum over the points between i and j of the step from i to the point, cross the step from i to the next, without its sign.
 fn area_of(points: &[Point], i: usize, j: usize) -> u64
     requires lawful { ⌜ Lawful (now points) ⌝ }
     requires chord { ⌜ Chord (now points) i j ⌝ }

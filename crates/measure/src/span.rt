@@ -1,5 +1,4 @@
 // Span: a layer over any measure that bars a chord which lasts longer than its span.
-ghost use mathlib.Core.Path.{_≡_};
 ghost use Rattle.measure.specs.Layers.{barring, overlong};
 use crate::chord::is_chord;
 use crate::measure::Measure;

@@ -1,4 +1,4 @@
-// The synchronous measure: how far the points are from a pen that runs evenly along the chord, each at its own time.
+// The synchronous measure: how far the points are from where the chord has come at their times, if it is run through evenly.
 ghost use mathlib.Core.Path.{_≡_};
 ghost use Prim.Native.Nat.{_+_, _*_, _<_, _≤_};
 ghost use lib.IntN.{natAbs};
@@ -7,6 +7,7 @@ ghost use Rattle.tray.specs.Trays.{stroke as stroke-of};
 ghost use Rattle.measure.specs.Chords.{Placed, On, Chord};
 ghost use Rattle.measure.specs.Steps.{square, rounded-up};
 ghost use Rattle.measure.specs.Synchronous.{lag, lags, synchronous, synchronous-error, Least-synchronous};
+use crate::arith::difference;
 use crate::arith::product;
 use crate::arith::step;
 use crate::chord::is_chord;
@@ -17,7 +18,7 @@ use tray::tray::Lifted;
 #[derive(Clone, Copy)]
 pub struct Synchronous;
 
-// How far a point at the time part is from the even pen in one coordinate, times whole.
+// How far a point is from the chord's place at the time part, in one coordinate, times whole.
 fn lag_of(from: i32, here: i32, to: i32, part: u32, whole: u32) -> i32
     requires from { ⌜ Placed from ⌝ }
     requires here { ⌜ Placed here ⌝ }
@@ -28,7 +29,7 @@ fn lag_of(from: i32, here: i32, to: i32, part: u32, whole: u32) -> i32
 {
     let on = step(from, here);
     let along = step(from, to);
-    product(on, whole as i32) - product(part as i32, along)
+    difference(product(on, whole as i32), product(part as i32, along))
 }
 
 // A square, by a cast: with `unsigned_abs` the widening keeps a negation and a choice in the loop.

@@ -1,12 +1,12 @@
-use Prim.Native.Nat.{_+_, _-_, _≤_, _<_, max}
+use Prim.Native.Nat.{_+_, _-_, max}
 use mathlib.Core.Path.{_≡_, ap, _∙_}
 use native.Mathlib.Omega.{arith}
 use Rattle.tray.specs.Stroke.{numbered}
-use Rattle.measure.specs.Sides.{sided, past-at, along-at, past, along}
+use Rattle.measure.specs.Sides.{sided}
 use Rattle.measure.proofs.Ints.{stripped}
 use Rattle.measure.proofs.Runs.{one-more, part-inside, part-at, part-end}
 use Rattle.measure.proofs.Points.{on, on-as}
-use Rattle.measure.proofs.Heights.{most-past, most-along, distance-is, alongs-small, joined}
+use Rattle.measure.proofs.Heights.{past, along, past-at, along-at, most-past, most-along, distance-is, alongs-small, joined}
 use Rattle.measure.proofs.distance.distance_of.Needs as need
 use Rattle.measure.proofs.distance.distance_of.Needs.{in-Past, in-Along}
 
