@@ -1,5 +1,5 @@
 -- What was appended reads back behind what stood there.
-use mathlib.Core.Path.{_≡_, refl, sym, ap, subst, _∙_}
+use mathlib.Core.Path.{_≡_, sym, ap, subst, _∙_}
 use mathlib.Core.List.{List, [], _∷_, _++_, append-assoc}
 use Prim.Native.Nat.{ℕ, _+_, _≤_}
 use native.Mathlib.Omega.{arith}
@@ -8,7 +8,7 @@ use lib.Seq.{length-take-le}
 use Rattle.std.specs.shelf.Lists.{All}
 use Rattle.std.proofs.shelf.Lists.{take-at, joined-more}
 use Rattle.std.proofs.shelf.Elements.{all-take, all-push}
-use Rattle.page.specs.Strokes.{Stroke, strokeBytes, pageBytes}
+use Rattle.page.specs.Strokes.{Stroke, strokeBytes}
 use Rattle.page.specs.Fits.{Byte, StrokeFits}
 use Rattle.page.specs.Steps.{accepted, reading}
 use Rattle.page.specs.Causes.{Verdict}

@@ -1,5 +1,5 @@
 -- Laws of little-endian bytes.
-use mathlib.Core.Path.{_≡_, refl, sym, ap, _∙_}
+use mathlib.Core.Path.{_≡_, refl}
 use mathlib.Core.List.{List, [], _∷_}
 use Prim.Native.Nat.{ℕ, zero, suc, _+_, _*_, _/_, _%_, _^_, _<_}
 use native.Mathlib.Nat.{pow-suc, div-lt-iff-lt-mul}
@@ -8,10 +8,6 @@ use lib.ListN.{length}
 use Rattle.std.specs.shelf.Lists.{All}
 use Rattle.page.specs.Little.{le, unle}
 use Rattle.page.specs.Fits.{Byte}
-
-pub length-le : (k n : ℕ) → length (le k n) ≡ k
-length-le zero n = refl
-length-le (suc k) n = ap suc (length-le k (n / 256))
 
 pub unle-le : (k n : ℕ) → n < 256 ^ k → unle (le k n) ≡ n
 unle-le zero n h = omega arith

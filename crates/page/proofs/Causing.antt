@@ -1,9 +1,9 @@
 -- A record that is read: whether a cause holds where it stands.
 use mathlib.Core.Path.{_≡_, refl, sym, ap, subst, _∙_}
-use mathlib.Core.Bool.{Bool, true, false, cond, _&&_}
+use mathlib.Core.Bool.{true, false}
 use mathlib.Core.Logic.{_⊎_, inl, inr, ⊎-elim}
-use mathlib.Core.List.{List, [], _∷_, _++_}
-use Prim.Native.Nat.{ℕ, _+_, _*_, _≤_, _<_}
+use mathlib.Core.List.{List, [], _∷_}
+use Prim.Native.Nat.{ℕ, _+_, _*_, _≤_}
 use native.Mathlib.Omega.{arith}
 use lib.Dec.{leb}
 use lib.ListN.{length, take, drop, getD}
@@ -19,12 +19,13 @@ use Rattle.page.specs.declared.kinds.Part.the-variants.{Outside, Inside}
 use Rattle.page.specs.declared.kinds.Step.{Step}
 use Rattle.page.specs.declared.kinds.Step.the-variants.{Finish}
 use Rattle.page.specs.Little.{unle}
-use Rattle.page.specs.Faults.{numberOf, toldAt}
+use Rattle.page.specs.Faults.{toldAt}
 use Rattle.page.specs.Records.{Rec, startRec, plainRec, cornerRec, orderRec, one, front}
 use Rattle.page.specs.Strokes.{orderOf, code, codes}
 use Rattle.page.specs.Steps.{meant}
 use Rattle.page.specs.Causes.{kindAt, Code, Holds, Stops}
-use Rattle.page.proofs.Framing.{Fronted, front-one, Sane, front-sane, firstly}
+use Rattle.page.proofs.Framing.{front-one}
+use Rattle.page.proofs.Refusing.{Sane, front-sane, firstly}
 
 -- no cause holds of a record that says something, and one stops the reading at any other
 abbrev pub Judge : ℕ → Part → List ℕ → Result Step Told → Type 0

@@ -3,12 +3,10 @@ use mathlib.Core.Path.{_≡_, refl, sym, ap, _∙_}
 use mathlib.Core.List.{List, [], _∷_, _++_, append-assoc, append-nil}
 use Prim.Native.Nat.{ℕ, _+_, _<_}
 use native.Mathlib.Omega.{arith}
-use lib.Dec.{ltb}
-use lib.ListN.{length, take, drop, take-append-drop, length-append}
+use lib.ListN.{length, drop, take-append-drop, length-append}
 use lib.Seq.{length-take-le}
 use Rattle.std.specs.declared.result.Result.{Result}
 use Rattle.std.specs.declared.result.Result.the-variants.{Ok, Err}
-use Rattle.std.proofs.shelf.Tests.{cond-both, ltb-true, ltb-false}
 use Rattle.refusal.specs.declared.Told.{Told}
 use Rattle.refusal.specs.declared.Layer.the-variants.{Page}
 use Rattle.refusal.specs.Said.{at-layer}
@@ -20,9 +18,9 @@ use Rattle.page.specs.declared.kinds.Step.{Step}
 use Rattle.page.specs.Faults.{numberOf, toldAt}
 use Rattle.page.specs.Records.{Front, bad, one, front}
 use Rattle.page.specs.Strokes.{Stroke, pageBytes}
-use Rattle.page.specs.Steps.{State, outside, partOf, Stepped, Ending, accepted, refusedBy, meant, stays, passes, atFront, stepped, readOn, readFrom, reading}
-use Rattle.page.specs.Causes.{Holds, Stops, openBytes, RefusedFirst, Verdict, Alone}
-use Rattle.page.proofs.Framing.{front-bad}
+use Rattle.page.specs.Steps.{State, partOf, accepted, refusedBy, meant, stays, passes, atFront, stepped, readOn, readFrom, reading}
+use Rattle.page.specs.Causes.{Holds, Stops, openBytes, RefusedFirst, Alone}
+use Rattle.page.proofs.Refusing.{front-bad}
 use Rattle.page.proofs.Stepping.{read-step}
 use Rattle.page.proofs.Returning.{behind, read-open, read-strokes, written-reads-back}
 use Rattle.page.proofs.Causing.{Judge, judge}

@@ -5,37 +5,35 @@ use mathlib.Core.Logic.{inl}
 use mathlib.Core.List.{List, [], _∷_, _++_, append-assoc, append-nil}
 use Prim.Native.Nat.{ℕ, zero, suc, _+_, _^_, _≤_, _<_}
 use native.Mathlib.Omega.{arith}
-use lib.ListN.{length, take, drop, length-append}
+use lib.ListN.{length, length-append}
 use Rattle.std.specs.Joined.{joined}
 use Rattle.std.specs.shelf.Lists.{All}
 use Rattle.std.specs.declared.result.Result.{Result}
 use Rattle.std.specs.declared.result.Result.the-variants.{Ok, Err}
-use Rattle.std.proofs.shelf.Tests.{cond-both}
 use Rattle.std.proofs.shelf.Lists.{take-at, drop-at, joined-more}
 use Rattle.std.proofs.shelf.Elements.{all-push}
 use Rattle.refusal.specs.declared.Told.{Told}
 use Rattle.page.specs.declared.fault.PageCause.{PageCause}
-use Rattle.page.specs.declared.fault.PageCause.the-variants.{CutRecord, OutOfPlace, WrongCode}
+use Rattle.page.specs.declared.fault.PageCause.the-variants.{OutOfPlace, WrongCode}
 use Rattle.tray.specs.declared.point.Mark.{Mark}
 use Rattle.tray.specs.declared.point.Mark.the-variants.{Plain, Corner}
 use Rattle.page.specs.declared.kinds.Point.{Point}
 use Rattle.page.specs.declared.kinds.Order.{Order}
-use Rattle.page.specs.declared.kinds.Part.{Part}
 use Rattle.page.specs.declared.kinds.Part.the-variants.{Outside, Inside}
 use Rattle.page.specs.declared.kinds.Step.{Step}
 use Rattle.page.specs.declared.kinds.Step.the-variants.{Finish}
 use Rattle.page.specs.Little.{le, unle}
-use Rattle.page.specs.Faults.{numberOf, toldAt}
+use Rattle.page.specs.Faults.{toldAt}
 use Rattle.page.specs.Records.{Rec, startRec, plainRec, cornerRec, orderRec, sizeOf, payload, frame, Front, bad, one, front}
 use Rattle.page.specs.Strokes.{Stroke, strokeOf, startBytes, pointBytes, orderBytes, strokeBytes, pageBytes, pointOf, orderOf, codes}
 use Rattle.page.specs.Fits.{Byte, PointFits, StrokeFits}
-use Rattle.page.specs.Steps.{State, outside, inside, partOf, Reading, accepted, refusedBy, meant, passes, stepped, atFront, onward, readOn, readFrom, reading}
-use Rattle.page.specs.Causes.{Holds, Stops, openBytes, OpenFits, RefusedFirst, Verdict, Judged}
+use Rattle.page.specs.Steps.{State, outside, inside, partOf, Reading, refusedBy, meant, passes, stepped, atFront, readOn, readFrom, reading}
+use Rattle.page.specs.Causes.{Stops, openBytes, OpenFits, RefusedFirst, Verdict, Judged}
 use Rattle.page.specs.Laws.{Accepted-stays}
-use Rattle.page.proofs.Framing.{Sound, front-one, front-less, front-split, front-sound, front-bad, firstly}
+use Rattle.page.proofs.Framing.{front-one, front-split, front-sound}
+use Rattle.page.proofs.Refusing.{front-bad, firstly}
 use Rattle.page.proofs.Bytes.{le-unle-at}
 use Rattle.page.proofs.Stepping.{read-step}
-use Rattle.page.proofs.Putting.{joined-append}
 use Rattle.page.proofs.Returning.{behind}
 use Rattle.page.proofs.Causing.{Judge, judge}
 use Rattle.page.proofs.Payloads.{small, point, order}

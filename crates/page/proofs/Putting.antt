@@ -1,7 +1,7 @@
 -- Bytes put into a page one part after another.
 use mathlib.Core.Path.{_≡_, refl, sym, ap, _∙_}
 use mathlib.Core.Bool.{true, false}
-use mathlib.Core.List.{List, [], _∷_, _++_, append-assoc, append-nil}
+use mathlib.Core.List.{List, [], _∷_, _++_, append-assoc}
 use Prim.Native.Nat.{ℕ, _+_, _*_, _≤_, _<_}
 use native.Mathlib.Nat.{mul-add}
 use native.Mathlib.Omega.{arith}
@@ -14,11 +14,9 @@ use Rattle.std.proofs.shelf.Tests.{cond-true, cond-false}
 use Rattle.std.proofs.shelf.Lists.{take-at, drop-at, drop-drop, take-more, joined-more}
 use Rattle.page.specs.declared.fault.PageCause.the-variants.{ShortPage}
 use Rattle.tray.specs.declared.point.Mark.{Mark}
-use Rattle.tray.specs.declared.point.Mark.the-variants.{Plain, Corner}
 use Rattle.page.specs.declared.kinds.Point.{Point}
-use Rattle.page.specs.Little.{le}
 use Rattle.page.specs.Records.{recordBytes}
-use Rattle.page.specs.Strokes.{Stroke, startBytes, markKind, pointPayload, pointBytes, orderBytes, strokeBytes}
+use Rattle.page.specs.Strokes.{Stroke, markKind, pointPayload, pointBytes, orderBytes, strokeBytes}
 use Rattle.page.specs.Writes.{written}
 use Rattle.page.specs.Appends.{refuses, appends}
 
@@ -44,10 +42,6 @@ written-more at m page a b e h =
 -- one part after those that were put already
 pub put-after : (at m : ℕ) (page p q a b c : List ℕ) → p ≡ written at page a → q ≡ written m p c → c ≡ b → m ≡ at + length a → m + length b ≤ length page → q ≡ written at page (a ++ b)
 put-after at m page p q a b c ep eq ec e h = eq ∙ ap (written m p) ec ∙ ap (λ l. written m l b) ep ∙ written-more at m page a b e h
-
-pub joined-append : {A : Type 0} (f : A → List ℕ) (xs ys : List A) → joined f (xs ++ ys) ≡ joined f xs ++ joined f ys
-joined-append f [] ys = refl
-joined-append f (x ∷ xs) ys = ap (λ l. f x ++ l) (joined-append f xs ys) ∙ sym (append-assoc (f x) (joined f xs) (joined f ys))
 
 -- elements of one width each
 module _ {A : Type 0} (f : A → List ℕ) (w : ℕ) (wide : (x : A) → length (f x) ≡ w) where

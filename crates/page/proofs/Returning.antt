@@ -1,8 +1,8 @@
 -- Strokes that were written read back as themselves.
-use mathlib.Core.Path.{_≡_, refl, sym, ap, subst, _∙_}
-use mathlib.Core.Bool.{Bool, true, false, cond}
+use mathlib.Core.Path.{_≡_, refl, sym, ap, _∙_}
+use mathlib.Core.Bool.{true}
 use mathlib.Core.List.{List, [], _∷_, _++_, append-assoc, append-nil}
-use Prim.Native.Nat.{ℕ, zero, suc, _+_, _*_, _^_, _≤_, _<_}
+use Prim.Native.Nat.{ℕ, suc, _+_, _*_, _^_, _<_}
 use native.Mathlib.Omega.{arith}
 use lib.IntN.{ℤ}
 use lib.ListN.{length, length-append}
@@ -11,7 +11,7 @@ use mir.Val.{ofZ, toZ, SFits}
 use mir.ValLaws.{ofZ-fits}
 use Rattle.std.specs.Joined.{joined}
 use Rattle.std.specs.shelf.Lists.{All}
-use Rattle.std.specs.declared.result.Result.the-variants.{Ok, Err}
+use Rattle.std.specs.declared.result.Result.the-variants.{Ok}
 use Rattle.std.proofs.shelf.Tests.{cond-true}
 use Rattle.std.proofs.shelf.Signed.{toZ-ofZ}
 use Rattle.tray.specs.declared.point.Mark.{Mark}
@@ -19,12 +19,12 @@ use Rattle.tray.specs.declared.point.Mark.the-variants.{Plain, Corner}
 use Rattle.page.specs.declared.kinds.Point.{Point}
 use Rattle.page.specs.declared.kinds.Order.{Order}
 use Rattle.page.specs.declared.kinds.Step.{Step}
-use Rattle.page.specs.declared.kinds.Step.the-variants.{Begin, Point as Next, Finish, End}
+use Rattle.page.specs.declared.kinds.Step.the-variants.{Begin, Point as Next, Finish}
 use Rattle.page.specs.Little.{le, unle}
 use Rattle.page.specs.Records.{Rec, startRec, plainRec, cornerRec, orderRec, payload, sizeOf, recordBytes, frame}
 use Rattle.page.specs.Strokes.{Stroke, startBytes, markKind, pointPayload, pointBytes, orderPayload, orderBytes, strokeBytes, pageBytes, pointOf, orderOf, codes}
 use Rattle.page.specs.Fits.{PointFits, StrokeFits}
-use Rattle.page.specs.Steps.{meant, State, outside, inside, partOf, Reading, Ending, accepted, closed, onward, readOn, readFrom}
+use Rattle.page.specs.Steps.{meant, State, outside, inside, partOf, Reading, accepted, closed, onward, readOn, readFrom}
 use Rattle.page.specs.Causes.{openBytes, OpenFits}
 use Rattle.page.proofs.Bytes.{unle-le}
 use Rattle.page.proofs.Framing.{front-frame}

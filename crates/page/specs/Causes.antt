@@ -11,7 +11,7 @@
 --   Alone bs            nothing else is right to say of it
 use mathlib.Core.Path.{_≡_}
 use mathlib.Core.Logic.{_⊎_}
-use mathlib.Core.List.{List, [], _∷_, _++_}
+use mathlib.Core.List.{List, [], _++_}
 use Prim.Native.Nat.{ℕ, _+_, _≤_, _<_, _^_}
 use lib.ListN.{length, take, drop, getD}
 use Rattle.std.specs.Joined.{joined}

@@ -1,6 +1,6 @@
 // Numbers, points and orders taken from a payload.
 ghost use mathlib.Core.Path.{_≡_};
-ghost use Prim.Native.Nat.{ℕ, _+_, _≤_};
+ghost use Prim.Native.Nat.{_+_, _≤_};
 ghost use lib.ListN.{length, take, drop};
 ghost use mir.Syntax.{w16};
 ghost use mir.Val.{toZ};

@@ -1,3 +1,4 @@
+-- A stroke number is its whole payload.
 use mathlib.Core.Path.{ap, _∙_}
 use native.Mathlib.Omega.{arith}
 use Rattle.std.proofs.shelf.Lists.{take-all}

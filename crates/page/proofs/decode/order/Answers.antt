@@ -1,8 +1,8 @@
-use mathlib.Core.Path.{sym, ap, _≡_, _∙_}
-use mathlib.Core.List.{List, [], _∷_}
-use Prim.Native.Nat.{ℕ, _≤_, _<_}
+-- The fields of an order, part by part of its payload.
+use mathlib.Core.Path.{ap, _≡_, _∙_}
+use mathlib.Core.List.{List}
+use Prim.Native.Nat.{ℕ, _<_}
 use native.Mathlib.Omega.{arith}
-use borrow.Author.Needs.{needs}
 use lib.ListN.{drop, take, length, getD, length-drop}
 use Rattle.page.specs.Little.{unle}
 use Rattle.std.proofs.shelf.Lists.{take-all, drop-more}

@@ -1,10 +1,10 @@
-use mathlib.Core.Path.{sym, ap, _≡_, _∙_}
-use Prim.Native.Nat.{_≤_}
+-- The fields of a point, part by part of its payload.
+use mathlib.Core.Path.{ap, _∙_}
 use native.Mathlib.Omega.{arith}
 use borrow.Author.Needs.{needs}
-use lib.ListN.{drop, length, length-drop}
+use lib.ListN.{drop, length-drop}
 use mir.Syntax.{w16}
-use mir.Val.{toZ, SFits}
+use mir.Val.{SFits}
 use Rattle.page.specs.Little.{unle}
 use Rattle.std.proofs.shelf.Lists.{take-all}
 use Rattle.std.proofs.shelf.Signed.{toZ-ofZ}

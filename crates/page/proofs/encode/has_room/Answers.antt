@@ -1,4 +1,5 @@
-use mathlib.Core.Path.{refl, sym, _≡_, _∙_}
+-- Room for a head and so many parts, found by one division.
+use mathlib.Core.Path.{refl, sym, _≡_}
 use mathlib.Core.Bool.{Bool, true, false}
 use Prim.Native.Nat.{ℕ, _+_, _-_, _*_, _/_, _≤_, _<_}
 use native.Mathlib.Nat.{le-div-iff-mul-le, div-lt-iff-lt-mul, mul-comm}

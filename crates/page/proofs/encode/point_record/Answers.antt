@@ -1,3 +1,4 @@
+-- A point's record, byte by byte.
 use mathlib.Core.Path.{refl, sym, ap, _≡_, _∙_}
 use mathlib.Core.List.{List, [], _∷_}
 use Prim.Native.Nat.{ℕ, _/_, _%_, _^_, _<_}
@@ -10,7 +11,6 @@ use Rattle.std.proofs.shelf.Signed.{toZ-ofZ}
 use Rattle.tray.specs.declared.point.Mark.{Mark}
 use Rattle.tray.specs.declared.point.Mark.the-variants.{Plain, Corner}
 use Rattle.page.specs.declared.kinds.Point.{Point}
-use Rattle.page.specs.Records.{recordBytes}
 use Rattle.page.specs.Strokes.{markKind, pointPayload, pointBytes}
 use Rattle.page.proofs.encode.point_record.Needs as need
 

@@ -1,3 +1,4 @@
+-- The page outside of the bytes that were put.
 use mathlib.Core.Path.{ap, _≡_, _∙_}
 use mathlib.Core.List.{_++_}
 use Prim.Native.Nat.{ℕ, _+_, _-_}

@@ -1,3 +1,4 @@
+-- The record that was read is the one at the front.
 use mathlib.Core.Path.{refl, sym, ap, _≡_, _∙_}
 use mathlib.Core.List.{List}
 use Prim.Native.Nat.{ℕ, _-_}

@@ -1,3 +1,4 @@
+-- What holds of every page holds of this one, since its elements are bytes.
 use mathlib.Core.List.{List}
 use Prim.Native.Nat.{ℕ}
 use Rattle.std.specs.shelf.Lists.{All}

@@ -1,9 +1,9 @@
-use mathlib.Core.Path.{refl, sym, ap, subst, _≡_, _∙_}
+-- Each way out of a step, by the step that the definitions make there.
+use mathlib.Core.Path.{sym, ap, subst, _≡_, _∙_}
 use mathlib.Core.List.{List}
 use Prim.Native.Nat.{ℕ, _+_, _<_}
 use native.Mathlib.Omega.{arith}
 use lib.ListN.{length}
-use borrow.Author.Needs.{needs}
 use borrow.Author.Tests.{true-eqb, false-eqb}
 use Rattle.std.specs.declared.result.Result.{Result}
 use Rattle.std.specs.declared.result.Result.the-variants.{Ok, Err}
@@ -12,12 +12,11 @@ use Rattle.std.proofs.shelf.Results.{err-from-errBy}
 use Rattle.page.specs.declared.fault.PageFault.{PageFault}
 use Rattle.page.specs.declared.fault.StepFault.{StepFault}
 use Rattle.page.specs.declared.fault.StepFault.the-variants.{Page}
-use Rattle.page.specs.declared.kinds.Part.{Part}
 use Rattle.page.specs.declared.kinds.Step.{Step}
 use Rattle.page.specs.declared.walk.Walk.{Walk}
 use Rattle.page.specs.Faults.{told, toldAt, OfPage}
-use Rattle.page.specs.Records.{Rec, sizeOf, one, front}
-use Rattle.page.specs.Steps.{Stepped, meant, stepped, stays}
+use Rattle.page.specs.Records.{Rec, sizeOf, front}
+use Rattle.page.specs.Steps.{meant, stepped, stays}
 use Rattle.page.specs.Walks.{recOf, seen}
 use Rattle.page.proofs.Framing.{Fronted, front-one}
 use Rattle.page.proofs.Stepping.{reads-on, falls-on, parts-on, step-one, step-refused, step-bad, step-end}

@@ -1,3 +1,4 @@
+-- So many points are put, and those that were put fit their fields.
 use mathlib.Core.Path.{_≡_}
 use Prim.Native.Nat.{_+_, _*_}
 use lib.ListN.{take}

@@ -1,21 +1,20 @@
+-- Header, stroke number, totals and kept numbers stand one after another.
 use mathlib.Core.Path.{_≡_, refl, sym, ap, _∙_}
 use mathlib.Core.Bool.{true, false}
-use mathlib.Core.List.{List, _++_, append-assoc}
+use mathlib.Core.List.{List, _++_}
 use Prim.Native.Nat.{ℕ, _+_, _*_, _≤_, _<_}
 use native.Mathlib.Omega.{arith}
-use lib.Dec.{leb, ltb}
-use lib.ListN.{length, getD, take, length-append}
+use lib.ListN.{length, take}
 use borrow.Author.Tests.{true-leb}
 use Rattle.std.specs.Joined.{joined}
 use Rattle.std.specs.declared.result.Result.the-variants.{Err}
-use Rattle.std.proofs.shelf.Tests.{cond-true, cond-false, cond-both, lt-ltb, le-ltb}
+use Rattle.std.proofs.shelf.Tests.{cond-true, cond-false, lt-ltb, le-ltb}
 use Rattle.std.proofs.shelf.Lists.{take-all}
-use Rattle.page.specs.declared.fault.PageCause.the-variants.{ShortPage}
 use Rattle.page.specs.declared.kinds.Totals.{Totals}
 use Rattle.page.specs.Little.{le}
 use Rattle.page.specs.Answers.{keptPayload, keptBytes, keptFits}
 use Rattle.page.specs.Writes.{written}
-use Rattle.page.specs.Appends.{outcome, refuses, appendsKept}
+use Rattle.page.specs.Appends.{outcome}
 use Rattle.page.proofs.Putting.{written-none, put-after, joined-length, put-more, appends-short, appends-fits}
 use Rattle.page.proofs.writer.Writer.append_kept.Needs as need
 use Rattle.page.proofs.writer.Writer.append_kept.Needs.{then-count-gt-MOST-KEPT·by·then-count-gt-MOST-KEPT, then-count-gt-MOST-KEPT·by·else-count-gt-MOST-KEPT·then-not-has-room}

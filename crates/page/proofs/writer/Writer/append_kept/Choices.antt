@@ -1,3 +1,4 @@
+-- So many kept numbers are put.
 use mathlib.Core.Path.{_≡_}
 use Prim.Native.Nat.{_+_, _*_}
 use lib.ListN.{take}

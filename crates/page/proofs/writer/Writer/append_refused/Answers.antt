@@ -1,3 +1,4 @@
+-- One record stands behind the bytes used.
 use mathlib.Core.Path.{refl, ap, _∙_}
 use Rattle.page.specs.Writes.{written}
 use Rattle.page.specs.Answers.{refusedBytes}

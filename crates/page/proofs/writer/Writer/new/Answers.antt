@@ -1,3 +1,4 @@
+-- Strokes that are written read back.
 use mathlib.Core.Path.{refl}
 use Rattle.page.proofs.Returning.{written-reads-back}
 use Rattle.page.proofs.writer.Writer.new.Needs as need
