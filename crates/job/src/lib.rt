@@ -7,4 +7,5 @@ mod marking;
 mod open;
 mod points;
 mod reads;
+mod stroke;
 mod whole;
