@@ -4,3 +4,4 @@ pub mod Open
 pub mod Marking
 pub mod Reads
 pub mod Whole
+pub mod Records

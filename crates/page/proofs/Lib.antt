@@ -6,6 +6,7 @@ pub mod Framing
 pub mod Refusing
 pub mod Stepping
 pub mod Putting
+pub mod Kepts
 pub mod Returning
 pub mod Causing
 pub mod Payloads

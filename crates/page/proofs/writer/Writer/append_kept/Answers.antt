@@ -16,20 +16,9 @@ use Rattle.page.specs.Answers.{keptPayload, keptBytes, keptFits}
 use Rattle.page.specs.Writes.{written}
 use Rattle.page.specs.Appends.{outcome}
 use Rattle.page.proofs.Putting.{written-none, put-after, joined-length, put-more, appends-short, appends-fits}
+use Rattle.page.proofs.Kepts.{payload-length, bytes-length, kept-fits, kept-long}
 use Rattle.page.proofs.writer.Writer.append_kept.Needs as need
 use Rattle.page.proofs.writer.Writer.append_kept.Needs.{then-count-gt-MOST-KEPT·by·then-count-gt-MOST-KEPT, then-count-gt-MOST-KEPT·by·else-count-gt-MOST-KEPT·then-not-has-room}
-
-payload-length : (n : ℕ) (t : Totals) (ks : List ℕ) → length (keptPayload n t ks) ≡ 20 + 2 * length ks
-payload-length n t ks = let j = joined-length (le 2) 2 (λ _. refl) ks in omega arith
-
-bytes-length : (n : ℕ) (t : Totals) (ks : List ℕ) → length (keptBytes n t ks) ≡ 24 + 2 * length ks
-bytes-length n t ks = let j = payload-length n t ks in omega arith
-
-kept-fits : (n : ℕ) (t : Totals) (ks : List ℕ) → length ks ≤ 32757 → keptFits n t ks ≡ true
-kept-fits n t ks h = let j = payload-length n t ks in lt-ltb (length (keptPayload n t ks)) 65536 (omega arith)
-
-kept-long : (n : ℕ) (t : Totals) (ks : List ℕ) → 32757 < length ks → keptFits n t ks ≡ false
-kept-long n t ks h = let j = payload-length n t ks in le-ltb (length (keptPayload n t ks)) 65536 (omega arith)
 
 pub returns-then-count-gt-MOST-KEPT : need.returns-then-count-gt-MOST-KEPT
 returns-then-count-gt-MOST-KEPT c =
