@@ -5,3 +5,5 @@ pub mod Marking
 pub mod Reads
 pub mod Whole
 pub mod Records
+pub mod Between
+pub mod Jobs
