@@ -35,7 +35,12 @@ fn push_kept(heap: Global, text: &mut String, numbers: &[u16]) -> Result<(), All
 }
 
 // Appends the figures of a total: one, or two for the kind with the code 3.
-fn push_figures(heap: Global, text: &mut String, total: u8, totals: Totals) -> Result<(), AllocError>
+fn push_figures(
+    heap: Global,
+    text: &mut String,
+    total: u8,
+    totals: Totals,
+) -> Result<(), AllocError>
     ensures { λ r. ⌜ made r (λ _. string-bytes (now (text .exit)) ≡ string-bytes (now (text .entry)) ++ figures-text total totals) ⌝ }
 {
     push_number(heap, text, " total ", totals.first)?;
