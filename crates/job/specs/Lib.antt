@@ -7,3 +7,4 @@ pub mod Whole
 pub mod Records
 pub mod Between
 pub mod Jobs
+pub mod Laws
