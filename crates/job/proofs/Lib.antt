@@ -9,3 +9,4 @@ pub mod Layereds
 pub mod Reduces
 pub mod EachKind
 pub mod Fitting
+pub mod Keeping

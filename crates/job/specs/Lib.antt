@@ -8,3 +8,4 @@ pub mod Records
 pub mod Between
 pub mod Jobs
 pub mod Laws
+pub mod Calls

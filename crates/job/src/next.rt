@@ -5,6 +5,7 @@ ghost use lib.ListN.{length};
 ghost use Rattle.page.specs.Steps.{reading};
 ghost use Rattle.job.specs.Whole.{Shorter};
 ghost use Rattle.job.specs.Jobs.{to-read, next-from, next-done, outcome-of, jobbed, More};
+ghost use Rattle.job.specs.Calls.{Keeps-the-law};
 ghost use Rattle.job.specs.Laws.{Fits-the-page, Holds-the-answers, Own-records-alone, Never-8-or-10};
 use crate::answered::Answered;
 use crate::job::Job;
@@ -68,6 +69,7 @@ pub fn run(page: &[u8], answers: &mut [u8]) -> Result<usize, JobFault>
     ensures holds { λ _. ⌜ Holds-the-answers (now (page .entry)) (now (answers .entry)) ⌝ }
     ensures alone { λ _. ⌜ Own-records-alone ⌝ }
     ensures roomy { λ _. ⌜ Never-8-or-10 ⌝ }
+    ensures lawful { λ _. ⌜ Keeps-the-law ⌝ }
 {
     let mut job = Job::new(page);
     loop {

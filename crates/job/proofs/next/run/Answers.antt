@@ -5,6 +5,7 @@ use Rattle.page.specs.Fits.{Byte}
 use Rattle.job.proofs.Answerings.{holds-the-answers, own-records-alone}
 use Rattle.job.proofs.EachKind.{never-8-or-10}
 use Rattle.job.proofs.Fitting.{fits-the-page}
+use Rattle.job.proofs.Keeping.{keeps-the-law}
 use Rattle.job.proofs.next.run.Needs as need
 
 pub returns-in-Break-answered : need.returns-in-Break-answered
@@ -17,6 +18,7 @@ returns-in-Break-answered c =
       holds = holds-the-answers bs out;
       alone = own-records-alone;
       roomy = never-8-or-10;
+      lawful = keeps-the-law;
     }
 
 pub returns-then-is-none : need.returns-then-is-none
@@ -29,4 +31,5 @@ returns-then-is-none c =
       holds = holds-the-answers bs out;
       alone = own-records-alone;
       roomy = never-8-or-10;
+      lawful = keeps-the-law;
     }
