@@ -3,3 +3,10 @@ pub mod Puts
 pub mod Opens
 pub mod Markings
 pub mod Steps
+pub mod Answerings
+pub mod Drawings
+pub mod Layereds
+pub mod Reduces
+pub mod EachKind
+pub mod Fitting
+pub mod Keeping

@@ -45,10 +45,10 @@ noted ms n k m e h = ap (λ i. take (n + 1) (set ms i m)) e ∙ take-more-set ms
 pub drawing-more : (ps : List Dot) (p : Dot) → drawing (ps ++ p ∷ []) ≡ drawn-with (drawing ps) p
 drawing-more ps p = foldl-append drawn-with (Ok []) ps (p ∷ [])
 
-err-ok : {X : Type 0} (t : Told) (x : X) (r : Result X Told) → r ≡ Err t → r ≡ Ok x → ⊥
+pub err-ok : {X : Type 0} (t : Told) (x : X) (r : Result X Told) → r ≡ Err t → r ≡ Ok x → ⊥
 err-ok t x r p q = let z : _≡_ {A = ℕ} 0 1 = cc in omega arith
 
-stays-refused : (t : Told) (ps : List Dot) → foldl drawn-with (Err t) ps ≡ Err t
+pub stays-refused : (t : Told) (ps : List Dot) → foldl drawn-with (Err t) ps ≡ Err t
 stays-refused t [] = refl
 stays-refused t (p ∷ ps) = stays-refused t ps
 

@@ -7,3 +7,5 @@ pub mod Whole
 pub mod Records
 pub mod Between
 pub mod Jobs
+pub mod Laws
+pub mod Calls
