@@ -7,3 +7,6 @@ pub fn worked_cases_stand() -> u8
 {
     0
 }
+
+#[cfg(test)]
+mod tests;
