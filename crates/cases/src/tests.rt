@@ -8,6 +8,7 @@ use tray::refusal::Refusal;
 use tray::refusal::RefusalDebug;
 use tray::tray::Writing;
 
+mod measures;
 mod trays;
 
 // A tray with the hook.
@@ -17,6 +18,17 @@ fn hook() -> Result<Writing, Refusal> {
     tray.put(1, 4, 1)?;
     tray.put(2, 4, 2)?;
     tray.put(3, 3, 3)?;
+    tray.put(4, 0, 4)?;
+    Ok(tray)
+}
+
+// A tray with the wave.
+fn wave() -> Result<Writing, Refusal> {
+    let mut tray = Writing::new();
+    tray.put(0, 0, 0)?;
+    tray.put(1, 2, 1)?;
+    tray.put(2, 0, 2)?;
+    tray.put(3, -2, 3)?;
     tray.put(4, 0, 4)?;
     Ok(tray)
 }
