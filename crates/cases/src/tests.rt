@@ -9,6 +9,7 @@ use tray::refusal::RefusalDebug;
 use tray::tray::Writing;
 
 mod measures;
+mod reduces;
 mod trays;
 
 // A tray with the hook.
