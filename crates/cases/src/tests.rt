@@ -9,6 +9,7 @@ use tray::refusal::RefusalDebug;
 use tray::tray::Writing;
 
 mod measures;
+mod pages;
 mod reduces;
 mod trays;
 

@@ -219,7 +219,7 @@ fn spanned(span: u32) -> Span<Synchronous> {
 }
 
 #[test]
-fn spans_leave_points_unreached() -> Result<(), Fail> {
+fn span_0_leaves_points_unreached() -> Result<(), Fail> {
     let hook = hook()?.lift();
     keeps(&hook, &spanned(1), 5, 5, 0, [1, 2, 3, 4, 5, 9])?;
     let mut lent = BLANK;
@@ -228,16 +228,28 @@ fn spans_leave_points_unreached() -> Result<(), Fail> {
     check_eq(lent.counts, [0, 0, 0, 0, 0, 9])?;
     check_eq(lent.preds, [0, 0, 0, 0, 0, 9])?;
     check_eq(totals, sums([0, 0, 0, 0, 0, 9]))?;
-    check_eq(lent.list, [9; 6])?;
+    check_eq(lent.list, [9; 6])
+}
+
+// Two points, and two more after a time of 8.
+fn parted() -> Result<Lifted, Refusal> {
     let mut tray = Writing::new();
     tray.put(0, 0, 0)?;
     tray.put(0, 0, 1)?;
     tray.put(0, 0, 9)?;
     tray.put(0, 0, 10)?;
-    let stroke = tray.lift();
+    Ok(tray.lift())
+}
+
+#[test]
+fn points_after_a_gap_are_unreached() -> Result<(), Fail> {
+    let stroke = parted()?;
+    let mut lent = BLANK;
+    let mut totals = [NO_SUM; 6];
     refuses(run(&stroke, &spanned(2), 5, &mut lent, &mut totals), 9, 4)?;
-    check_eq(lent.counts, [0, 1, 0, 0, 0, 9])?;
-    check_eq(lent.preds, [0, 1, 0, 0, 0, 9])?;
+    check_eq(lent.counts, [0, 1, 0, 0, 9, 9])?;
+    check_eq(lent.preds, [0, 1, 0, 0, 9, 9])?;
+    check_eq(totals, sums([0, 0, 0, 0, 9, 9]))?;
     check_eq(lent.list, [9; 6])
 }
 
@@ -326,7 +338,7 @@ fn short_tables_are_refused() -> Result<(), Fail> {
 }
 
 #[test]
-fn refused_before_the_search() -> Result<(), Fail> {
+fn refused_before_filling() -> Result<(), Fail> {
     let mut lent = BLANK;
     let mut totals = [NO_SUM; 6];
     let mut none: [Sum; 0] = [];
