@@ -4,7 +4,8 @@
 --   with-corners       the synchronous measure under Corners
 --   with-span s        the synchronous measure under Span s
 --   Shown              what a reduce says, and what its list holds then
---   reducing           this of a reduce by a kind of total, a measure and a tolerance; tables and list have an empty entry for each point
+--   reducing           this of a reduce by a kind of total, a measure and a tolerance, of a stroke; its tables and its list
+--                      have one entry for each point, at first 0 or the start
 --   keeping            these numbers of n points are kept, with their count and this total, and the list holds 0 after them
 --   no-way             no lawful chain leads to the last of n points, and the list is as it was
 --   Worked-cases       what reduces of the hook say and leave, and errors of chords

@@ -1,6 +1,7 @@
 // Pages written and read: a stroke there and back, answers, and what is refused.
 use page::fault::PageFault;
 use page::fault::PageFaultDebug;
+use page::fault::StepFault;
 use page::fault::StepFaultDebug;
 use page::kinds::Order;
 use page::kinds::OrderDebug;
@@ -140,6 +141,24 @@ fn stroke_reads_back() -> Result<(), Fail> {
     check_eq(finished(walk.step()?), Some(ORDER))?;
     check(is_end(walk.step()?))?;
     check(is_end(walk.step()?))
+}
+
+// The step was refused with this number, at this place.
+fn stops(said: Result<Step, StepFault>, number: u16, place: usize) -> Result<(), Fail> {
+    match said {
+        Ok(_) => Err(Fail::new("not refused")),
+        Err(fault) => check_eq(fault.told(), told(number, place)),
+    }
+}
+
+#[test]
+fn refused_step_moves_nothing() -> Result<(), Fail> {
+    let mut walk = Walk::new(&STROKE[0..20]);
+    check_eq(begun(walk.step()?), Some(7))?;
+    check_eq(pointed(walk.step()?), Some(CORNER))?;
+    stops(walk.step(), 14, 20)?;
+    stops(walk.step(), 14, 20)?;
+    check_eq(walk.place, 20)
 }
 
 // What stops the reading of a page of at most six records, or none at its end.
