@@ -2,7 +2,7 @@
 use mathlib.Core.Path.{_≡_, refl, sym, ap, _∙_, subst}
 use mathlib.Core.Logic.{inl, inr}
 use mathlib.Core.Bool.{true, cond}
-use mathlib.Core.List.{List, [], _∷_, _++_}
+use mathlib.Core.List.{List, [], _∷_, _++_, map}
 use Prim.Native.Nat.{ℕ, _+_, _≤_, _<_}
 use native.Mathlib.Nat.{zero-add}
 use native.Mathlib.Omega.{arith}
@@ -29,6 +29,12 @@ written-length used page bs h =
     let d = length-drop (used + length bs) page in
     omega arith
 
+room-left : (used : ℕ) (page bs : List ℕ) → used + length bs ≤ length page → used + length bs ≤ length (written used page bs)
+room-left used page bs h = omega (arith, written-length used page bs h)
+
+ends-at : (m k a b : ℕ) (rs : List (List ℕ)) (own e : Ending) → m ≡ k → a ≡ b → Ends m a rs own e → Ends k b rs own e
+ends-at m k a b rs own e p q h = subst (λ x. Ends x b rs own e) p (subst (λ x. Ends m x rs own e) q h)
+
 -- over any record of a stroke
 module _ (rec : Stroke → List ℕ) where
   record Held (n used : ℕ) (out : List ℕ) (ss : List Stroke) (own : Ending) (o : Outcome) : Type 0 where
@@ -38,7 +44,7 @@ module _ (rec : Stroke → List ℕ) where
     pub count : o .answered ≡ n + length first
     pub room : used + length (joined rec first) ≤ length out
     pub bytes : o .bytes ≡ written used out (joined rec first)
-    pub ending : Ends rec (length out) (used + length (joined rec first)) others own (o .ending)
+    pub ending : Ends (length out) (used + length (joined rec first)) (map rec others) own (o .ending)
 
   at-end : (n used : ℕ) (out : List ℕ) (own : Ending) → used ≤ length out → Held n used out [] own (ended n own out)
   at-end n used out own h = record {
@@ -65,9 +71,6 @@ module _ (rec : Stroke → List ℕ) where
         ending = (ap (λ m. refusedBy (toldAt ShortPage m)) z, omega arith);
       }
 
-  ends-at : (m k a b : ℕ) (ss : List Stroke) (own e : Ending) → m ≡ k → a ≡ b → Ends rec m a ss own e → Ends rec k b ss own e
-  ends-at m k a b ss own e p q h = subst (λ x. Ends rec x b ss own e) p (subst (λ x. Ends rec m x ss own e) q h)
-
   fits : (n used : ℕ) (out : List ℕ) (s : Stroke) (ss : List Stroke) (own : Ending) (o : Outcome) → used + length (rec s) ≤ length out →
       Held (n + 1) (used + length (rec s)) (written used out (rec s)) ss own o → Held n used out (s ∷ ss) own o
   fits n used out s ss own o h q =
@@ -82,7 +85,7 @@ module _ (rec : Stroke → List ℕ) where
         count = omega arith;
         room = omega arith;
         bytes = q .bytes ∙ written-more used (used + length (rec s)) out (rec s) (joined rec (q .first)) refl (omega arith);
-        ending = ends-at _ _ _ _ (q .others) own (o .ending) size (omega arith) (q .ending);
+        ending = ends-at _ _ _ _ (map rec (q .others)) own (o .ending) size (omega arith) (q .ending);
       }
 
   one-more : (n used : ℕ) (out : List ℕ) (s : Stroke) (ss : List Stroke) (own : Ending) (o : Outcome) → used ≤ length out →
@@ -95,13 +98,10 @@ module _ (rec : Stroke → List ℕ) where
         | inr e ↦ subst P (sym (cond-false _ _ _ e)) (full n used out s ss own h (leb-false _ _ e))
       ]
 
-  room-left : (used : ℕ) (page bs : List ℕ) → used + length bs ≤ length page → used + length bs ≤ length (written used page bs)
-  room-left used page bs h = omega (arith, written-length used page bs h)
-
 held : (n used : ℕ) (out : List ℕ) (ss : List Stroke) (own : Ending) → used ≤ length out → Held record-of n used out ss own (answering n used out ss own)
 held n used out [] own h = at-end record-of n used out own h
 held n used out (s ∷ ss) own h =
-    one-more record-of n used out s ss own _ h (λ l. held (n + 1) _ _ ss own (room-left record-of used out (record-of s) l))
+    one-more record-of n used out s ss own _ h (λ l. held (n + 1) _ _ ss own (room-left used out (record-of s) l))
 
 pub holds-the-answers : (bs out : List ℕ) → Holds-the-answers bs out
 holds-the-answers bs out =
@@ -114,7 +114,7 @@ holds-the-answers bs out =
       count = q .count ∙ zero-add (length (q .first));
       room = subst (λ n. n ≤ length out) (zero-add size) (q .room);
       bytes = q .bytes;
-      ending = ends-at record-of _ _ _ _ (q .others) (reading bs .ending) (jobbed bs out .ending) refl (zero-add size) (q .ending);
+      ending = ends-at _ _ _ _ (map record-of (q .others)) (reading bs .ending) (jobbed bs out .ending) refl (zero-add size) (q .ending);
     }
 
 pub own-records-alone : Own-records-alone

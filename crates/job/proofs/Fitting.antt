@@ -1,6 +1,6 @@
 -- The answers of a page are no longer than the page.
 use mathlib.Core.Path.{_≡_, sym, ap, _∙_}
-use mathlib.Core.List.{List, [], _∷_, _++_, append-nil}
+use mathlib.Core.List.{List, [], _∷_, _++_, map, append-nil}
 use Prim.Native.Nat.{ℕ, _+_, _≤_}
 use native.Mathlib.Omega.{arith}
 use lib.ListN.{length, length-append}
@@ -35,7 +35,7 @@ strokes-within bs ss (refusedBy t) v =
 
 -- so no stroke is left
 none-left : (f g : Stroke → List ℕ) → ((s : Stroke) → length (f s) ≤ length (g s)) → (all first others : List Stroke) (room : ℕ) (own e : Ending) →
-    all ≡ first ++ others → length (joined g all) ≤ room → Ends f room (length (joined f first)) others own e → (e ≡ own) × (length first ≡ length all)
+    all ≡ first ++ others → length (joined g all) ≤ room → Ends room (length (joined f first)) (map f others) own e → (e ≡ own) × (length first ≡ length all)
 none-left f g le all first [] room own e split h w = (w, ap length (sym (append-nil first) ∙ sym split))
 none-left f g le all first (s ∷ rest) room own e split h w =
     absurd (omega (arith, joined-part f first s rest, joined-le f g le all, ap (λ ss. length (joined f ss)) split, w .1))

@@ -1,12 +1,12 @@
 -- What a job keeps, over every page and every answer page.
---   Ends                how a job ends, where this many bytes of the answer page are used and these strokes are left
+--   Ends                how a job ends, where so many bytes of the answer page's room are filled and these records are left
 --   Holds-the-answers   the answer page begins with the records of the first strokes of the page, in order, and is else as it was;
 --                       where a stroke is left, its record does not fit behind them, and the job is refused there
 --   Fits-the-page       an answer page as long as the page has room for every answer
 --   Own-records-alone   on a page with one stroke alone, the job appends the record that answers it on every page
 --   Never-8-or-10       no stroke is refused for a short table or a short list
 use mathlib.Core.Path.{_≡_}
-use mathlib.Core.List.{List, [], _∷_, _++_}
+use mathlib.Core.List.{List, [], _∷_, _++_, map}
 use Prim.Native.Nat.{ℕ, _+_, _≤_, _<_}
 use lib.ListN.{length}
 use Rattle.std.specs.Joined.{joined}
@@ -20,10 +20,10 @@ use Rattle.page.specs.Writes.{written}
 use Rattle.job.specs.Answer.{refused, answer}
 use Rattle.job.specs.Jobs.{record-of, ended, jobbed}
 
--- as the page's reading ends, where no stroke is left
-abbrev pub Ends : (Stroke → List ℕ) → ℕ → ℕ → List Stroke → Ending → Ending → Type 0
-Ends rec room filled [] own e = e ≡ own
-Ends rec room filled (s ∷ ss) own e = (e ≡ refusedBy (toldAt ShortPage filled)) × (room < filled + length (rec s))
+-- as the reading of the page ends, where no record is left; else by the refusal of a short page, and the next record does not fit
+abbrev pub Ends : ℕ → ℕ → List (List ℕ) → Ending → Ending → Type 0
+Ends room filled [] own e = e ≡ own
+Ends room filled (r ∷ rs) own e = (e ≡ refusedBy (toldAt ShortPage filled)) × (room < filled + length r)
 
 pub record Holds-the-answers (bs out : List ℕ) : Type 0 where
   pub first : List Stroke
@@ -32,7 +32,7 @@ pub record Holds-the-answers (bs out : List ℕ) : Type 0 where
   pub count : jobbed bs out .answered ≡ length first
   pub room : length (joined record-of first) ≤ length out
   pub bytes : jobbed bs out .bytes ≡ written 0 out (joined record-of first)
-  pub ending : Ends record-of (length out) (length (joined record-of first)) others (reading bs .ending) (jobbed bs out .ending)
+  pub ending : Ends (length out) (length (joined record-of first)) (map record-of others) (reading bs .ending) (jobbed bs out .ending)
 
 abbrev pub Fits-the-page : List ℕ → List ℕ → Type 0
 Fits-the-page bs out = length bs ≤ length out →
