@@ -5,6 +5,7 @@
 --   Next          one stroke more: what is told of it, what is left to read, and where the answer page stands
 --   next-of       the first stroke of a reading answered
 --   More          how many bytes a call leaves
+--   Side          a refusal is the page's where no stroke is left to read, and the answer page's where one is
 use mathlib.Core.Path.{_≡_}
 use mathlib.Core.Bool.{cond}
 use mathlib.Core.List.{List, [], _∷_}
@@ -17,6 +18,8 @@ use Rattle.std.specs.declared.result.Result.{Result}
 use Rattle.std.specs.declared.result.Result.the-variants.{Ok, Err}
 use Rattle.refusal.specs.declared.Told.{Told}
 use Rattle.page.specs.declared.fault.PageCause.the-variants.{ShortPage}
+use Rattle.page.specs.declared.fault.StepFault.{StepFault}
+use Rattle.page.specs.declared.fault.StepFault.the-variants.{Page as Read, Answers}
 use Rattle.page.specs.Faults.{stepTold, toldAt}
 use Rattle.page.specs.Strokes.{Stroke}
 use Rattle.page.specs.Steps.{Reading, Ending, accepted, refusedBy, reading}
@@ -118,3 +121,13 @@ abbrev pub More : ℕ → ℕ → Result (Option Answered) JobFault → Type 0
 More new old (Ok (Some a)) = new < old
 More new old (Ok None) = Unit {0}
 More new old (Err f) = Unit {0}
+
+abbrev pub On-side : List Stroke → StepFault → Type 0
+On-side [] (Read f) = Unit {0}
+On-side [] (Answers f) = ⊥
+On-side (s ∷ ss) (Read f) = ⊥
+On-side (s ∷ ss) (Answers f) = Unit {0}
+
+abbrev pub Side : List Stroke → Result (Option Answered) JobFault → Type 0
+Side ss (Ok a) = Unit {0}
+Side ss (Err f) = On-side ss (f .fault)

@@ -4,7 +4,7 @@ ghost use Prim.Native.Nat.{_<_};
 ghost use lib.ListN.{length};
 ghost use Rattle.page.specs.Steps.{reading};
 ghost use Rattle.job.specs.Whole.{Shorter};
-ghost use Rattle.job.specs.Jobs.{to-read, next-from, next-done, outcome-of, jobbed, More};
+ghost use Rattle.job.specs.Jobs.{to-read, next-from, next-done, outcome-of, jobbed, More, Side};
 ghost use Rattle.job.specs.Calls.{Keeps-the-law};
 ghost use Rattle.job.specs.Laws.{Fits-the-page, Holds-the-answers, Own-records-alone, Never-8-or-10};
 use crate::answered::Answered;
@@ -32,6 +32,7 @@ impl<'a> Job<'a> {
     // Answers the next stroke and appends its record, or tells that there is none; a refused call leaves everything as it was.
     pub fn next(&mut self, answers: &mut [u8]) -> Result<Option<Answered>, JobFault>
         ensures next { λ r. ⌜ next-done r (now (self .exit)) (now (answers .exit)) ≡ next-from (now (self .entry)) (now (answers .entry)) ⌝ }
+        ensures side { λ r. ⌜ Side (to-read (now (self .entry)) .strokes) r ⌝ }
         ensures falls { λ r. ⌜ More (length (now (self .exit) .walk .rest .now)) (length (now (self .entry) .walk .rest .now)) r ⌝ }
     {
         let appended = self.count;

@@ -11,16 +11,16 @@ use Rattle.job.proofs.reads.step_within.Needs as need
 pub returns-in-Break-step : need.returns-in-Break-step
 returns-in-Break-step c =
     let p = err-from-errBy (c .from-residual .result) (c .from-residual .ensures .1) in
-    rw (p .1, p .2) (record { reads = reads-inside (c .args .walk .now) (c .step .last .self) _ _ (c .in-Break-step .was tt) (c .step .ensures .reads) (c .pre); part = tt; falls = tt })
+    rw (p .1, p .2) (record { reads = reads-inside (c .args .walk .now) (c .step .last .self) _ _ (c .in-Break-step .was tt) (c .step .ensures .reads) (c .pre); part = tt; source = c .in-Break-step .ensures tt .source; falls = tt })
 
 pub returns-in-Point : need.returns-in-Point
 returns-in-Point c =
     let F : Step → Result Step StepFault = λ s. Ok s in
     let e : c .step .result ≡ Ok (Next (c .in-Point .p)) = c .in-Continue-step .was tt ∙ ap F (c .in-Point .is) in
-    record { reads = reads-inside (c .args .walk .now) (c .step .last .self) _ _ e (c .step .ensures .reads) (c .pre); part = parts-known (c .args .walk .now) (c .step .last .self) _ _ e (c .step .ensures .parts) .1; falls = falls-known (c .args .walk .now) (c .step .last .self) _ _ e (c .step .ensures .falls) }
+    record { reads = reads-inside (c .args .walk .now) (c .step .last .self) _ _ e (c .step .ensures .reads) (c .pre); part = parts-known (c .args .walk .now) (c .step .last .self) _ _ e (c .step .ensures .parts) .1; source = tt; falls = falls-known (c .args .walk .now) (c .step .last .self) _ _ e (c .step .ensures .falls) }
 
 pub returns-in-Finish : need.returns-in-Finish
 returns-in-Finish c =
     let F : Step → Result Step StepFault = λ s. Ok s in
     let e : c .step .result ≡ Ok (Finish (c .in-Finish .order)) = c .in-Continue-step .was tt ∙ ap F (c .in-Finish .is) in
-    record { reads = reads-inside (c .args .walk .now) (c .step .last .self) _ _ e (c .step .ensures .reads) (c .pre); part = parts-known (c .args .walk .now) (c .step .last .self) _ _ e (c .step .ensures .parts) .1; falls = falls-known (c .args .walk .now) (c .step .last .self) _ _ e (c .step .ensures .falls) }
+    record { reads = reads-inside (c .args .walk .now) (c .step .last .self) _ _ e (c .step .ensures .reads) (c .pre); part = parts-known (c .args .walk .now) (c .step .last .self) _ _ e (c .step .ensures .parts) .1; source = tt; falls = falls-known (c .args .walk .now) (c .step .last .self) _ _ e (c .step .ensures .falls) }

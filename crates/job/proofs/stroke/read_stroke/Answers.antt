@@ -24,5 +24,6 @@ returns c =
     record {
       reads = record { stroke = strokeOf n (h .0) (c .in-Continue-order .order); held = record { number = refl; points = h .1 .0; order = refl }; is = begins ∙ h .1 .1 n };
       part = c .in-Continue-order .ensures tt .part;
+      source = tt;
       falls = omega (arith, fewer, c .in-Continue-order .ensures tt .falls);
     }
