@@ -2,7 +2,7 @@
 use Rattle.std.proofs.Common.{◌≡◌, ℕ, List, [], ◌∷◌, ◌++◌, map, length, take, Ok, Err, Result, sym, refl, ap, ◌∙◌, arith, lit<}
 use mir.Facts.{sfits_lit}
 use Rattle.tray.specs.declared.point.Point.{Point}
-use Rattle.tray.specs.declared.refusal.Refusal.{Refusal}
+use Rattle.tray.specs.declared.causes.Refusal.{Refusal}
 use Rattle.tray.specs.Refusals.{tells}
 use Rattle.tray.specs.Stroke.{Lawful}
 use Rattle.tray.specs.Machine.{put_says, put_after}

@@ -1,4 +1,6 @@
 // The worked cases: as one theorem over the definitions, and as runs of the public calls.
+#![tactic(auto)]
+
 ghost use Rattle.cases.specs.Premises.{PremisesMet};
 ghost use Rattle.cases.specs.Worked.{WorkedCases};
 

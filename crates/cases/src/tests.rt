@@ -2,7 +2,7 @@
 use refusal::{Layer, Told};
 use std::process::Abort;
 use std::test::Fail;
-use tray::refusal::Refusal;
+use tray::causes::Refusal;
 use tray::tray::Writing;
 
 mod measures;

@@ -1,4 +1,6 @@
 // Every chord of a stroke, measured: the sums of all errors, for other languages to call and to time.
+#![tactic(auto)]
+
 ghost use Rattle.std.specs.Prelude.{◌≡◌, ◌≤◌};
 ghost use Rattle.tray.specs.Trays.{stroke as stroke_of};
 ghost use Rattle.measure.specs.Synchronous.{synchronous};

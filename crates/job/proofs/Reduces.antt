@@ -1,8 +1,8 @@
 -- What the job's reduce of a stroke answers, whatever the kind of total.
 use Rattle.std.proofs.Common.{◌≡◌, ℕ, ◌+◌, ◌*◌, ◌<◌, ◌≤◌, List, length, take, Ok, Err, Result, ap, subst, arith}
 use Rattle.tray.specs.declared.point.Point.{Point}
-use Rattle.tray.specs.declared.refusal.Refusal.{Refusal}
-use Rattle.tray.specs.declared.refusal.Refusal.TheVariants.{OffSheet, StoppedClock, LongStroke, FullTray, BareTray, NoSuchPoint, WideTolerance, ShortTable, NoWay, ShortList}
+use Rattle.tray.specs.declared.causes.Refusal.{Refusal}
+use Rattle.tray.specs.declared.causes.Refusal.TheVariants.{OffSheet, StoppedClock, LongStroke, FullTray, BareTray, NoSuchPoint, WideTolerance, ShortTable, NoWay, ShortList}
 use Rattle.tray.specs.Refusals.{tells}
 use Rattle.tray.specs.Reductions.{Meaning}
 use Rattle.page.specs.declared.kinds.Totals.{Totals}

@@ -13,7 +13,7 @@ use Rattle.std.specs.Prelude.{ℕ, cond, List, [], ◌∷◌, map, length, take,
 use mathlib.Core.List.{foldl}
 use Rattle.refusal.specs.declared.Told.{Told}
 use Rattle.tray.specs.declared.point.Point.{Point}
-use Rattle.tray.specs.declared.refusal.Refusal.{Refusal}
+use Rattle.tray.specs.declared.causes.Refusal.{Refusal}
 use Rattle.tray.specs.Refusals.{told}
 use Rattle.tray.specs.Machine.{plain, marked, put_says, put_after}
 use Rattle.tray.specs.Reductions.{Meaning}

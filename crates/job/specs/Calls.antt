@@ -10,7 +10,7 @@ use Rattle.std.specs.Prelude.{◌≡◌, ℕ, ◌+◌, List, [], ◌∷◌, ◌+
 use Rattle.tray.specs.declared.point.Point.{Point}
 use Rattle.tray.specs.declared.point.Mark.{Mark}
 use Rattle.tray.specs.declared.point.Mark.TheVariants.{Plain, Corner}
-use Rattle.tray.specs.declared.refusal.Refusal.{Refusal}
+use Rattle.tray.specs.declared.causes.Refusal.{Refusal}
 use Rattle.tray.specs.Refusals.{tells}
 use Rattle.tray.specs.Reductions.{Reduction}
 use Rattle.tray.specs.History.{up, Call, put, lift, mark, reduce, History, ◌▸◌}

@@ -4,7 +4,7 @@
 use Rattle.std.specs.Prelude.{◌≡◌, List, map, length, take, Some, None, Ok, Err, Option, Result}
 use Rattle.refusal.specs.declared.Told.{Told}
 use Rattle.tray.specs.declared.point.Point.{Point}
-use Rattle.tray.specs.declared.refusal.Refusal.{Refusal}
+use Rattle.tray.specs.declared.causes.Refusal.{Refusal}
 use Rattle.tray.specs.Refusals.{told}
 use Rattle.tray.specs.Trays.{writing}
 use Rattle.page.specs.declared.kinds.Point.{Point as Dot}

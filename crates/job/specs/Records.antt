@@ -3,7 +3,7 @@
 --   answer_bytes   its record on an answer page
 --   Answers a s    the code holds the answer of the stroke s
 use Rattle.std.specs.Prelude.{◌≡◌, ℕ, List, take, Ok, Err, Result}
-use Rattle.tray.specs.declared.refusal.Refusal.{Refusal}
+use Rattle.tray.specs.declared.causes.Refusal.{Refusal}
 use Rattle.tray.specs.Refusals.{told}
 use Rattle.page.specs.declared.kinds.Totals.{Totals}
 use Rattle.page.specs.Strokes.{Stroke}

@@ -2,7 +2,7 @@
 ghost use Rattle.std.specs.Prelude.{◌≡◌, ◌≤◌, length};
 
 use page::kinds::Totals;
-use tray::refusal::Refusal;
+use tray::causes::Refusal;
 
 // The stroke's number, the code of its kind of total, and the two figures of the total, or why there is none; the list begins with the kept numbers.
 #[derive(Clone, Copy)]

@@ -19,7 +19,7 @@ use reducer::reduce::reduce;
 use total::sum::Sum;
 use total::sum_then_worst::SumThenWorst;
 use total::worst::Worst;
-use tray::refusal::Refusal;
+use tray::causes::Refusal;
 use tray::tray::Lifted;
 
 // By one measure under the two layers.

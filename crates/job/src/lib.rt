@@ -1,4 +1,6 @@
 // The job: a page of strokes is read, and each stroke is answered by one record on an answer page.
+#![tactic(auto)]
+
 pub mod answered;
 mod answers;
 pub mod figures;

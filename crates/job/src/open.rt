@@ -1,8 +1,8 @@
 // The stroke whose records are being read.
 ghost use Rattle.std.specs.Prelude.{◌≡◌, length};
 
+use tray::causes::Refusal;
 use tray::point::Mark;
-use tray::refusal::Refusal;
 use tray::tray::Writing;
 
 // Its points so far, their marks, which wait until the pen is lifted, and the refusal of its first refused put.

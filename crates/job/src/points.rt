@@ -10,8 +10,8 @@ use crate::keep::keep;
 use crate::marking::mark_corners;
 use crate::open::OpenStroke;
 use page::kinds::{Order, Point};
+use tray::causes::Refusal;
 use tray::point::Mark;
-use tray::refusal::Refusal;
 use tray::tray::Writing;
 
 // Puts a point on the tray and notes its mark, or tells why the put was refused.

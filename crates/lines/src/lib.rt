@@ -1,4 +1,6 @@
 // The lines that are printed: one for each stroke, and one for the refusal of a page or of the program.
+#![tactic(auto)]
+
 ghost use Rattle.std.specs.Prelude.{◌≡◌, ◌++◌, IfOk, string_bytes, codes, OnOk};
 ghost use Rattle.job.specs.Jobs.{line as line_of};
 ghost use Rattle.job.specs.Records.{shown};

@@ -1,4 +1,6 @@
 // Measures: the error of a chord of a lifted stroke. Three bare measures, and two layers over any measure.
+#![tactic(auto)]
+
 pub mod area;
 mod arith;
 mod chord;

@@ -1,4 +1,6 @@
 // Pages of strokes: records read in place, strokes and answers written whole.
+#![tactic(auto)]
+
 mod decode;
 mod encode;
 pub mod fault;

@@ -1,4 +1,6 @@
 // The job for callers in other languages: bytes of a page in, bytes of its answers out.
+#![tactic(auto)]
+
 ghost use Rattle.std.specs.Prelude.{◌≡◌};
 ghost use Rattle.job.specs.Jobs.{jobbed};
 ghost use Rattle.plotter.specs.Status.{status_of};

@@ -1,4 +1,6 @@
 // The program: reads a page from standard input and prints a line for each of its strokes.
+#![tactic(auto)]
+
 ghost use Rattle.std.specs.Prelude.{◌≡◌, ◌≤◌, length, IfOk};
 ghost use Rattle.refusal.specs.declared.Layer.TheVariants.{Program};
 ghost use Rattle.refusal.specs.Said.{at_layer};

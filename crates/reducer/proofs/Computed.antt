@@ -3,8 +3,8 @@ use Rattle.std.proofs.Common.{◌≡◌, ℕ, ◌+◌, ◌-◌, ◌<◌, ◌≤�
 use Rattle.std.proofs.lemmas.List.{drop_at, take_at, get_or_append_left, length-map, length-append}
 use Rattle.std.proofs.lemmas.Bool.Decides.{nat_tests}
 use Rattle.std.proofs.lemmas.Bool.{cases_Bool, leb-true, leb-false, ltb-true, ltb-false, cond-true, cond-false}
-use Rattle.tray.specs.declared.refusal.Refusal.{Refusal}
-use Rattle.tray.specs.declared.refusal.Refusal.TheVariants.{BareTray, WideTolerance, ShortTable, NoWay, ShortList}
+use Rattle.tray.specs.declared.causes.Refusal.{Refusal}
+use Rattle.tray.specs.declared.causes.Refusal.TheVariants.{BareTray, WideTolerance, ShortTable, NoWay, ShortList}
 use Rattle.tray.specs.Refusals.{tells as says}
 use Rattle.total.specs.Laws.{limit}
 use Rattle.reducer.specs.declared.answer.Answer.{Answer}

@@ -5,8 +5,8 @@ use Rattle.std.proofs.lemmas.List.{length_push}
 use Rattle.total.specs.declared.total.Total.{Ghosts}
 use Rattle.reducer.specs.declared.answer.Answer.{Answer}
 use Rattle.tray.specs.declared.point.Point.{Point}
-use Rattle.tray.specs.declared.refusal.Refusal.{Refusal}
-use Rattle.tray.specs.declared.refusal.Refusal.TheVariants.{OffSheet, StoppedClock, LongStroke, FullTray, BareTray, NoSuchPoint, WideTolerance, ShortTable, NoWay, ShortList}
+use Rattle.tray.specs.declared.causes.Refusal.{Refusal}
+use Rattle.tray.specs.declared.causes.Refusal.TheVariants.{OffSheet, StoppedClock, LongStroke, FullTray, BareTray, NoSuchPoint, WideTolerance, ShortTable, NoWay, ShortList}
 use Rattle.total.specs.Laws.{Laws, limit}
 use Rattle.reducer.specs.Chains as chains
 use Rattle.reducer.specs.Chains.{Task, task, LawfulChain, alone, more, total, Answered}

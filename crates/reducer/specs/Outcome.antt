@@ -4,8 +4,8 @@
 --   Lacks       the kept chain does not fit the list
 --   Outcome     one of these, or the cause of the refusal
 use Rattle.std.specs.Prelude.{◌≡◌, ℕ, ◌-◌, ◌<◌, ◌≤◌, List, length, take, drop, Ok, Err, Result}
-use Rattle.tray.specs.declared.refusal.Refusal.{Refusal}
-use Rattle.tray.specs.declared.refusal.Refusal.TheVariants.{OffSheet, StoppedClock, LongStroke, FullTray, BareTray, NoSuchPoint, WideTolerance, ShortTable, NoWay, ShortList}
+use Rattle.tray.specs.declared.causes.Refusal.{Refusal}
+use Rattle.tray.specs.declared.causes.Refusal.TheVariants.{OffSheet, StoppedClock, LongStroke, FullTray, BareTray, NoSuchPoint, WideTolerance, ShortTable, NoWay, ShortList}
 use Rattle.total.specs.Laws.{limit}
 use Rattle.reducer.specs.declared.answer.Answer.{Answer}
 use Rattle.reducer.specs.Chains.{Task, Relaxed, Answered, Cut}

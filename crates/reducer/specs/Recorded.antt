@@ -4,7 +4,7 @@
 --   reduction    what it asked, what it was lent, and its reply
 use Rattle.std.specs.Prelude.{ℕ, min, Bool, ◌&&◌, List, length, take, Ok, Err, Result}
 use mathlib.Core.List.{foldl}
-use Rattle.tray.specs.declared.refusal.Refusal.{Refusal}
+use Rattle.tray.specs.declared.causes.Refusal.{Refusal}
 use Rattle.tray.specs.Refusals.{told}
 use Rattle.tray.specs.Reductions.{Meaning, Reply, answered, refused, Reduction}
 use Rattle.total.specs.declared.total.Total.{Ghosts}

@@ -17,7 +17,7 @@ use crate::relax::{count, relax};
 use crate::walk::walk;
 use measure::measure::Measure;
 use total::total::{LIMIT, Total};
-use tray::refusal::Refusal;
+use tray::causes::Refusal;
 use tray::tray::Lifted;
 
 // Fills the tables and lists the kept chain, or refuses.

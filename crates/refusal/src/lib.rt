@@ -1,4 +1,5 @@
 // What every refused call tells: a number, a place, and the layer that refused.
+#![tactic(auto)]
 
 // Where a refusal comes from.
 #[derive(Clone, Copy, Debug, PartialEq, Eq)]

@@ -13,7 +13,7 @@ pub struct Pair<T> {
 impl<T: Total> Pair<T> {
     // Whether this pair is better than the other: fewer chords, or as many and a lesser total.
     pub fn is_better(self, other: Pair<T>) -> bool
-        ensures { result ≡ better order self other }
+        ensures { result ≡ better T.order self other }
     {
         self.chords < other.chords
             || (self.chords == other.chords && !other.total.at_most(self.total))

@@ -5,8 +5,8 @@ use Rattle.std.specs.Prelude.{ℕ, Result}
 use Rattle.refusal.specs.declared.Told.{Told}
 use Rattle.refusal.specs.declared.Layer.TheVariants.{Tray}
 use Rattle.refusal.specs.Said.{said, at_layer}
-use Rattle.tray.specs.declared.refusal.Refusal.{Refusal}
-use Rattle.tray.specs.declared.refusal.Refusal.TheVariants.{OffSheet, StoppedClock, LongStroke, FullTray, BareTray, NoSuchPoint, WideTolerance, ShortTable, NoWay, ShortList}
+use Rattle.tray.specs.declared.causes.Refusal.{Refusal}
+use Rattle.tray.specs.declared.causes.Refusal.TheVariants.{OffSheet, StoppedClock, LongStroke, FullTray, BareTray, NoSuchPoint, WideTolerance, ShortTable, NoWay, ShortList}
 
 abbrev pub told : Refusal → Told
 told (OffSheet p) = at_layer Tray 1 p

@@ -7,8 +7,8 @@ ghost use Rattle.tray.specs.Machine.{put_says, take_back_says, mark_says};
 ghost use Rattle.tray.specs.History.{new as bare_tray, step, put as calls_put, take_back as calls_take_back, lift as calls_lift, mark as calls_mark, unmark as calls_unmark, clear as calls_clear};
 ghost use Rattle.tray.specs.Drawn.{DrawsExactly, StaysLawful, TakesTheLawful};
 
+use crate::causes::Refusal;
 use crate::point::{Mark, Point};
-use crate::refusal::Refusal;
 use crate::table::Table;
 use crate::tray::{Lifted, Writing};
 

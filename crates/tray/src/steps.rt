@@ -4,8 +4,8 @@ ghost use Rattle.tray.specs.Trays.{points as points_of};
 ghost use Rattle.tray.specs.Refusals.{tells};
 ghost use Rattle.tray.specs.Machine.{off_sheet, stopped, late, put_says, put_after, take_back_says, take_back_after, mark_says, mark_after};
 
+use crate::causes::Refusal;
 use crate::point::{Mark, Point};
-use crate::refusal::Refusal;
 use crate::table::Table;
 
 fn is_off_sheet(x: i32, y: i32) -> bool

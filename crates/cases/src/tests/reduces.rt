@@ -13,7 +13,7 @@ use total::sum::Sum;
 use total::sum_then_worst::SumThenWorst;
 use total::total::{LIMIT, Total};
 use total::worst::Worst;
-use tray::refusal::Refusal;
+use tray::causes::Refusal;
 use tray::tray::{Lifted, Writing};
 
 // What is lent to a reduce of at most five points beside the totals. The last entries stay as they were.

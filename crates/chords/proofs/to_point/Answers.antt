@@ -6,8 +6,8 @@ use Rattle.chords.proofs.Totals.{next_chord, some_small}
 use Rattle.chords.proofs.to_point.Goals as goal
 use Rattle.chords.proofs.to_point.Goals.{in-Some, in-default}
 
-pub overflow-add-sum : goal.overflow-add-sum
-overflow-add-sum g c =
+pub overflow_add-sum : goal.overflow_add-sum
+overflow_add-sum g c =
     let m = g.M.Measure.meaning c.args.measure.now in
     let ps = stroke c.args.stroke.now in
     let e = next_chord m ps c.args.j _ _ _ (omega arith) c.loop-i.invariant c.in-Some.ensures in
@@ -20,5 +20,5 @@ loop-i-preserved g c =
     let e = next_chord m (stroke c.args.stroke.now) c.args.j _ _ _ (omega arith) c.loop-i.invariant c.error.ensures in
     elim c.match-error.branch [
       | in-Some w ↦ omega (arith, e, ap counted w.in-Some.is, w.sum-is)
-      | in-default w ↦ omega (arith, e, ap counted w.in-default.is, w.sum-is)
+      | in-default w ↦ omega (arith, e, ap counted w.in_default.is, w.sum-is)
     ]

@@ -8,7 +8,7 @@ loop-n-preserved c =
     let s : List ℕ = string_bytes c.args.text.now in
     let ks = c.args.numbers.now in
     let i = c.loop-n.n-index in
-    c.in-ok-push-number.ensures
+    c.in_ok-push_number.ensures
     ∙ ap (λ (v : List ℕ). v ++ worded (codes " ") (get_or ks i 0)) c.loop-n.invariant
     ∙ flat_map_more (worded (codes " ")) s (take i ks) (get_or ks i 0)
     ∙ ap (λ v. s ++ kept_text v) (sym (take_more ks i 0 c.loop-n-test.true))

@@ -5,8 +5,8 @@ pub returns : goal.returns
 returns c =
     let s : List ℕ = string_bytes c.args.text.now in
     let w : List ℕ = c.args.word.now in
-    let digits : c.as-str.result.now ≡ decimal c.args.n = c.as-str.ensures.value ∙ search rules in
-    c.in-ok-push-str-2.ensures.bytes
-    ∙ ap (λ (v : List ℕ). v ++ c.as-str.result.now) c.in-ok-push-str.ensures.bytes
-    ∙ append_assoc s w c.as-str.result.now
+    let digits : c.as_str.result.now ≡ decimal c.args.n = c.as_str.ensures.value ∙ search rules in
+    c.in_ok-push_str-2.ensures.bytes
+    ∙ ap (λ (v : List ℕ). v ++ c.as_str.result.now) c.in_ok-push_str.ensures.bytes
+    ∙ append_assoc s w c.as_str.result.now
     ∙ ap (λ (v : List ℕ). s ++ (w ++ v)) digits

@@ -6,4 +6,4 @@ use Rattle.lines.proofs.push_refusal.Goals as goal
 pub returns : goal.returns
 returns c =
     both (string_bytes c.args.text.now) (worded (codes " refused ") c.args.told.number) (worded (codes " at ") c.args.told.place) _ _
-    c.in-ok-push-number.ensures c.in-ok-push-number-2.ensures
+    c.in_ok-push_number.ensures c.in_ok-push_number-2.ensures

@@ -16,20 +16,20 @@ returns-in-1 g c =
     let o = c.args.order in
     let ps = stroke c.args.stroke.now in
     let e : o.measure ≡ 1 = omega arith in
-    let P : Meaning → Type 0 = λ m. spoken c.keep-by.result c.keep-by.new.list ≡ replied g.T.Figures.fields (reduced (task g.T.Total (over_span o.span m ps) o.tolerance) (length ps) (lent (replicate 512 0) (replicate 512 0) c.args.totals.now c.args.list.now)) in
-    record { says = subst P (sym (by_1 synchronous distance area o.measure e)) c.keep-by.ensures.says; fits = c.keep-by.ensures.fits }
+    let P : Meaning → Type 0 = λ m. spoken c.keep_by.result c.keep_by.new.list ≡ replied g.T.Figures.fields (reduced (task g.T.Total (over_span o.span m ps) o.tolerance) (length ps) (lent (replicate 512 0) (replicate 512 0) c.args.totals.now c.args.list.now)) in
+    record { says = subst P (sym (by_1 synchronous distance area o.measure e)) c.keep_by.ensures.says; fits = c.keep_by.ensures.fits }
 
 pub returns-in-2 : goal.returns-in-2
 returns-in-2 g c =
     let o = c.args.order in
     let ps = stroke c.args.stroke.now in
     let e : o.measure ≡ 2 = omega arith in
-    let P : Meaning → Type 0 = λ m. spoken c.keep-by-in-2.result c.keep-by-in-2.new.list ≡ replied g.T.Figures.fields (reduced (task g.T.Total (over_span o.span m ps) o.tolerance) (length ps) (lent (replicate 512 0) (replicate 512 0) c.args.totals.now c.args.list.now)) in
-    record { says = subst P (sym (by_2 synchronous distance area o.measure e)) c.keep-by-in-2.ensures.says; fits = c.keep-by-in-2.ensures.fits }
+    let P : Meaning → Type 0 = λ m. spoken c.keep_by-in-2.result c.keep_by-in-2.new.list ≡ replied g.T.Figures.fields (reduced (task g.T.Total (over_span o.span m ps) o.tolerance) (length ps) (lent (replicate 512 0) (replicate 512 0) c.args.totals.now c.args.list.now)) in
+    record { says = subst P (sym (by_2 synchronous distance area o.measure e)) c.keep_by-in-2.ensures.says; fits = c.keep_by-in-2.ensures.fits }
 
-pub returns-in-default : goal.returns-in-default
-returns-in-default g c =
+pub returns-in_default : goal.returns-in_default
+returns-in_default g c =
     let o = c.args.order in
     let ps = stroke c.args.stroke.now in
-    let P : Meaning → Type 0 = λ m. spoken c.keep-by-in-default.result c.keep-by-in-default.new.list ≡ replied g.T.Figures.fields (reduced (task g.T.Total (over_span o.span m ps) o.tolerance) (length ps) (lent (replicate 512 0) (replicate 512 0) c.args.totals.now c.args.list.now)) in
-    record { says = subst P (sym (by_rest synchronous distance area o.measure (λ e. omega arith) (λ e. omega arith))) c.keep-by-in-default.ensures.says; fits = c.keep-by-in-default.ensures.fits }
+    let P : Meaning → Type 0 = λ m. spoken c.keep_by-in_default.result c.keep_by-in_default.new.list ≡ replied g.T.Figures.fields (reduced (task g.T.Total (over_span o.span m ps) o.tolerance) (length ps) (lent (replicate 512 0) (replicate 512 0) c.args.totals.now c.args.list.now)) in
+    record { says = subst P (sym (by_rest synchronous distance area o.measure (λ e. omega arith) (λ e. omega arith))) c.keep_by-in_default.ensures.says; fits = c.keep_by-in_default.ensures.fits }

@@ -7,8 +7,8 @@ use Rattle.job.proofs.points.put_point.Goals as goal
 pub says : (c : goal.In-Ok) → Ok c.in-Ok.number ≡ put_says (writing c.args.tray.now).points c.args.p.x c.args.p.y c.args.p.t
 says c = search rules
 
-pub overflow-sub-number : goal.overflow-sub-number
-overflow-sub-number c = let a = added _ _ _ _ _ (says c) in omega (arith, a.number)
+pub overflow_sub-number : goal.overflow_sub-number
+overflow_sub-number c = let a = added _ _ _ _ _ (says c) in omega (arith, a.number)
 
 pub bounds-marks-number : goal.bounds-marks-number
 bounds-marks-number c = let a = added _ _ _ _ _ (says c) in omega (arith, a.number, a.room, c.requires)

@@ -5,5 +5,5 @@ use Rattle.lines.proofs.output.push_line.Goals as goal
 pub returns : goal.returns
 returns c =
     let s : List ℕ = string_bytes c.args.text.now in
-    both s c.as-str.result.now (10 ∷ []) _ _ c.in-ok-push-str.ensures.bytes c.in-ok-push-str-2.ensures.bytes
-    ∙ ap (λ (v : List ℕ). s ++ (v ++ 10 ∷ [])) c.as-str.ensures.value
+    both s c.as_str.result.now (10 ∷ []) _ _ c.in_ok-push_str.ensures.bytes c.in_ok-push_str-2.ensures.bytes
+    ∙ ap (λ (v : List ℕ). s ++ (v ++ 10 ∷ [])) c.as_str.ensures.value

@@ -26,5 +26,5 @@ loop-k-preserved c =
     let ps = c.args.points.now in
     let i = c.args.i in
     let n = c.loop-k.k-index in
-    let h = marked ps i _ n _ c.loop-k-test.true (ap is_corner c.in-default.is) in
+    let h = marked ps i _ n _ c.loop-k-test.true (ap is_corner c.in_default.is) in
     one_more ◌||◌ false (corner_at ps) (i + 1) n ∙ or_from _ _ c.loop-k.invariant h

@@ -14,11 +14,11 @@ not_negative z = rw (square_is z) tt
 product_fits : (c : goal.Start) → SFits w64 (c.args.a *ℤ c.args.a)
 product_fits c = fits64 _ (omega (arith, small c))
 
-pub overflow-mul-result : goal.overflow-mul-result
-overflow-mul-result c = let a = c.ranges.a in simp to_z-of_z (product_fits c)
+pub overflow_mul-result : goal.overflow_mul-result
+overflow_mul-result c = let a = c.ranges.a in simp to_z-of_z (product_fits c)
 
-pub overflow-cast-result : goal.overflow-cast-result
-overflow-cast-result c = let a = c.ranges.a in let p = product_fits c in simp to_z-of_z (not_negative c.args.a, record { fits = omega (arith, small c) })
+pub overflow_cast-result : goal.overflow_cast-result
+overflow_cast-result c = let a = c.ranges.a in let p = product_fits c in simp to_z-of_z (not_negative c.args.a, record { fits = omega (arith, small c) })
 
 pub returns : goal.returns
 returns c = let a = c.ranges.a in let p = product_fits c in simp to_z-of_z

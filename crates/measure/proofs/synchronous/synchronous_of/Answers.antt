@@ -9,8 +9,8 @@ use Rattle.measure.proofs.Parts.{part_inside, part_at, part_on}
 use Rattle.measure.specs.Lags.{lags_sum_fits, some_time}
 use Rattle.measure.proofs.synchronous.synchronous_of.Goals as goal
 
-pub lags-of-sum-requires : goal.lags-of-sum-requires
-lags-of-sum-requires c =
+pub lags_of-sum-requires : goal.lags_of-sum-requires
+lags_of-sum-requires c =
     let ps = c.args.points.now in
     let i = c.args.i in
     let j = c.args.j in
@@ -29,7 +29,7 @@ lags-of-sum-requires c =
     }
 
 -- the sum with one more point
-next : (c : goal.After-lags-of-sum) → c.loop-k.sum + c.lags-of-sum.result ≡ gathered ◌+◌ 0 (lags_at c.args.points.now c.args.i c.args.j) (c.args.i + 1) (c.loop-k.k-index + 1)
+next : (c : goal.After-lags_of-sum) → c.loop-k.sum + c.lags_of-sum.result ≡ gathered ◌+◌ 0 (lags_at c.args.points.now c.args.i c.args.j) (c.args.i + 1) (c.loop-k.k-index + 1)
 next c =
     let ps = c.args.points.now in
     let i = c.args.i in
@@ -37,10 +37,10 @@ next c =
     let n = c.loop-k.k-index in
     let e = one_more ◌+◌ 0 (lags_at ps i j) (i + 1) n in
     let f = ap (lags (numbered ps i) (numbered ps j)) (part_at ps i _ n c.loop-k-test.true) in
-    cc (e, f, c.loop-k.invariant, c.lags-of-sum.ensures)
+    cc (e, f, c.loop-k.invariant, c.lags_of-sum.ensures)
 
-pub overflow-add-sum : goal.overflow-add-sum
-overflow-add-sum c =
+pub overflow_add-sum : goal.overflow_add-sum
+overflow_add-sum c =
     let ps = c.args.points.now in
     let i = c.args.i in
     let j = c.args.j in
@@ -51,8 +51,8 @@ overflow-add-sum c =
 pub loop-k-preserved : goal.loop-k-preserved
 loop-k-preserved c = next c
 
-pub overflow-sub-q-2 : goal.overflow-sub-q-2
-overflow-sub-q-2 c = omega (arith, later c.args.points.now c.args.i c.args.j c.requires.lawful (omega arith) (omega arith) (omega arith))
+pub overflow_sub-q-2 : goal.overflow_sub-q-2
+overflow_sub-q-2 c = omega (arith, later c.args.points.now c.args.i c.args.j c.requires.lawful (omega arith) (omega arith) (omega arith))
 
-pub over-square-requires : goal.over-square-requires
-over-square-requires c = some_time c.args.points.now c.args.i c.args.j c.requires.lawful c.requires.chord
+pub over_square-requires : goal.over_square-requires
+over_square-requires c = some_time c.args.points.now c.args.i c.args.j c.requires.lawful c.requires.chord

@@ -5,4 +5,4 @@ use Rattle.page.specs.Little.{unle}
 use Rattle.page.proofs.decode.number.Goals as goal
 
 pub returns : goal.returns
-returns c = c.u32-at.ensures ∙ ap unle (take_all 4 c.args.p.now (omega arith))
+returns c = c.u32_at.ensures ∙ ap unle (take_all 4 c.args.p.now (omega arith))

@@ -11,5 +11,5 @@ pub returns : goal.returns
 returns c =
     let m = one_at c.args.p.now 0 (omega arith) in
     let n = one_at c.args.p.now 1 (omega arith) in
-    let t = c.u64-at.ensures ∙ ap unle (take_all 8 (drop 6 c.args.p.now) (omega (arith, length-drop 6 c.args.p.now))) in
-    λ i. record { measure = m i; total = n i; span = c.u32-at.ensures i; tolerance = t i }
+    let t = c.u64_at.ensures ∙ ap unle (take_all 8 (drop 6 c.args.p.now) (omega (arith, length-drop 6 c.args.p.now))) in
+    λ i. record { measure = m i; total = n i; span = c.u32_at.ensures i; tolerance = t i }

@@ -7,9 +7,9 @@ use Rattle.page.proofs.decode.point.Goals as goal
 
 pub returns : goal.returns
 returns c =
-    let fx : SFits w16 c.i16-at.result = search rules in
-    let fy : SFits w16 c.i16-at-2.result = search rules in
-    let x = to_z-of_z w16 c.i16-at.result fx ∙ c.i16-at.ensures in
-    let y = to_z-of_z w16 c.i16-at-2.result fy ∙ c.i16-at-2.ensures in
-    let t = c.u32-at.ensures ∙ ap unle (take_all 4 (drop 4 c.args.p.now) (omega (arith, length-drop 4 c.args.p.now))) in
+    let fx : SFits w16 c.i16_at.result = search rules in
+    let fy : SFits w16 c.i16_at-2.result = search rules in
+    let x = to_z-of_z w16 c.i16_at.result fx ∙ c.i16_at.ensures in
+    let y = to_z-of_z w16 c.i16_at-2.result fy ∙ c.i16_at-2.ensures in
+    let t = c.u32_at.ensures ∙ ap unle (take_all 4 (drop 4 c.args.p.now) (omega (arith, length-drop 4 c.args.p.now))) in
     λ i. record { x = x i; y = y i; t = t i; mark = c.args.mark }

@@ -8,5 +8,5 @@ returns c =
     let at : ℕ = c.args.at in
     let k : ℕ = at + length c.args.bytes.now - at in
     let e : at + k ≡ at + length c.args.bytes.now = omega arith in
-    ap (λ l. take at c.args.page.now ++ (l ++ drop k (drop at c.args.page.now))) c.copy-from-slice.ensures.after
+    ap (λ l. take at c.args.page.now ++ (l ++ drop k (drop at c.args.page.now))) c.copy_from_slice.ensures.after
     ∙ ap (λ l. take at c.args.page.now ++ (c.args.bytes.now ++ l)) (drop-drop k at c.args.page.now ∙ ap (λ m. drop m c.args.page.now) e)

@@ -8,16 +8,16 @@ use Rattle.page.proofs.record.first_record.Goals as goal
 
 pub returns : goal.returns
 returns c =
-    let n : ℕ = c.from-le-bytes-size.result in
-    let k : ℕ = c.from-le-bytes-kind.result in
+    let n : ℕ = c.from_le_bytes-size.result in
+    let k : ℕ = c.from_le_bytes-kind.result in
     let tail : List ℕ = take (length c.args.rest.now - 4) (drop 4 c.args.rest.now) in
     let r : Rec = rec_of c.in-Some.record in
     let size : n ≡ size_of r = c.if-size.false ∙ c.size.ensures in
     record {
-      front = ap (one r) c.split-at.ensures.back
+      front = ap (one r) c.split_at.ensures.back
           ∙ sym (cond-true _ _ _ (eq-eqb n (size_of r) size))
           ∙ ap (sized n tail) c.in-Some.ensures
-          ∙ ap (λ p. sized n tail (known k p)) c.split-at.ensures.front
-          ∙ front_header c.args.rest.now n k (search rules) c.from-le-bytes-size.ensures c.from-le-bytes-kind.ensures c.if-tail-size.false;
+          ∙ ap (λ p. sized n tail (known k p)) c.split_at.ensures.front
+          ∙ front_header c.args.rest.now n k (search rules) c.from_le_bytes-size.ensures c.from_le_bytes-kind.ensures c.if-tail-size.false;
       place = refl;
     }

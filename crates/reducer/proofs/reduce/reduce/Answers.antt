@@ -13,11 +13,11 @@ returns g c =
     let few = (lawful_points c.args.stroke.now.table).few in
     let within = g.met.M.Measure.within c.args.measure.now ps in
     let k = task g.T.Total (g.M.Measure.meaning c.args.measure.now ps) c.args.tolerance in
-    let x = right g.T.Total (g.M.Measure.meaning c.args.measure.now) ps c.args.tolerance _ _ g.met.T.Total.lawful few within _ c.search-chain.ensures in
-    let made = c.search-chain.auto in
+    let x = right g.T.Total (g.M.Measure.meaning c.args.measure.now) ps c.args.tolerance _ _ g.met.T.Total.lawful few within _ c.search_chain.ensures in
+    let made = c.search_chain.auto in
     record {
-      equals = equals k (length ps) (λ le. record { laws = g.met.T.Total.lawful; few = few; within = within; tolerated = le }) _ _ (made.counts, made.preds, made.totals) _ c.search-chain.ensures;
-      outcome = c.search-chain.ensures;
+      equals = equals k (length ps) (λ le. record { laws = g.met.T.Total.lawful; few = few; within = within; tolerated = le }) _ _ (made.counts, made.preds, made.totals) _ c.search_chain.ensures;
+      outcome = c.search_chain.ensures;
       law = law ps _ x;
       runs = run_reduce ps _ x;
       other_calls = steps_go_on;

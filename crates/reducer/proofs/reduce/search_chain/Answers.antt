@@ -7,8 +7,8 @@ use Rattle.reducer.proofs.Optimal.{sound, entry_few}
 use Rattle.reducer.proofs.Walks.{walked, answered_as}
 use Rattle.reducer.proofs.reduce.search_chain.Goals as goal
 
-pub overflow-add-needed : goal.overflow-add-needed
-overflow-add-needed g c =
+pub overflow_add-needed : goal.overflow_add-needed
+overflow_add-needed g c =
     let n = c.count-n.result in
     let ps = stroke c.args.stroke.now in
     let k = task g.T.Total (g.M.Measure.meaning c.args.measure.now ps) c.args.tolerance in

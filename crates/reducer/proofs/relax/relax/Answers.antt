@@ -10,8 +10,8 @@ use Rattle.reducer.proofs.relax.relax.Goals as goal
 pub loop-j-init : goal.loop-j-init
 loop-j-init g c = (filled_one _ _ _ _ _ (omega arith) (omega arith) (omega arith) c.none.ensures, refl, refl, refl)
 
-pub best-step-found-requires : goal.best-step-found-requires
-best-step-found-requires g c =
+pub best_step-found-requires : goal.best_step-found-requires
+best_step-found-requires g c =
     let t = g.T.Total in
     let k = task t (g.M.Measure.meaning c.args.measure.now (stroke c.args.stroke.now)) c.args.tolerance in
     let few : length (stroke c.args.stroke.now) ≤ 512 = subst (λ x. x ≤ 512) c.count-n.ensures.value c.count-n.ensures.few in
@@ -36,8 +36,8 @@ loop-j-preserved g c =
     let few : length (stroke c.args.stroke.now) ≤ 512 = subst (λ x. x ≤ 512) c.count-n.ensures.value c.count-n.ensures.few in
     let ok : Sound k (length (stroke c.args.stroke.now)) = record { laws = g.met.T.Total.lawful; few = few; within = g.met.M.Measure.within c.args.measure.now (stroke c.args.stroke.now); tolerated = c.requires.tolerated } in
     let late : 2 ≤ c.loop-j.j = c.loop-j.auto.j in
-    let is : c.entry-of-step.result ≡ entered t.start (scan t.order (offer k c.loop-j.counts c.loop-j.totals c.loop-j.j) (c.loop-j.j - 1)) = cc in
-    let entry = next k (length (stroke c.args.stroke.now)) ok c.loop-j.counts c.loop-j.preds c.loop-j.totals c.loop-j.j late c.loop-j.invariant.0 c.entry-of-step.result is in
+    let is : c.entry_of-step.result ≡ entered t.start (scan t.order (offer k c.loop-j.counts c.loop-j.totals c.loop-j.j) (c.loop-j.j - 1)) = cc in
+    let entry = next k (length (stroke c.args.stroke.now)) ok c.loop-j.counts c.loop-j.preds c.loop-j.totals c.loop-j.j late c.loop-j.invariant.0 c.entry_of-step.result is in
     let low : c.loop-j.j - 1 < c.count-n.result = omega arith in (
       filled_more k c.loop-j.counts c.loop-j.preds c.loop-j.totals c.loop-j.j _ _ _ late (search rules) (search rules) (search rules) c.loop-j.invariant.0 entry,
       drop-set-lt _ _ _ _ low ∙ c.loop-j.invariant.1,

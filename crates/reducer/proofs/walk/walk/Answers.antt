@@ -13,16 +13,16 @@ loop-left-init c =
       refl,
     )
 
-pub overflow-cast-at : goal.overflow-cast-at
-overflow-cast-at c =
+pub overflow_cast-at : goal.overflow_cast-at
+overflow_cast-at c =
     let s = led_step c.args.preds.now c.loop-left.at c.loop-left.left c.loop-left-test.true c.loop-left.invariant.1 in
     search rules
 
-pub overflow-sub-at : goal.overflow-sub-at
-overflow-sub-at c = (led_step c.args.preds.now c.loop-left.at c.loop-left.left c.loop-left-test.true c.loop-left.invariant.1).0
+pub overflow_sub-at : goal.overflow_sub-at
+overflow_sub-at c = (led_step c.args.preds.now c.loop-left.at c.loop-left.left c.loop-left-test.true c.loop-left.invariant.1).0
 
-pub offset-bounds-preds-at : goal.offset-bounds-preds-at
-offset-bounds-preds-at c =
+pub offset_bounds-preds-at : goal.offset_bounds-preds-at
+offset_bounds-preds-at c =
     let s = led_step c.args.preds.now c.loop-left.at c.loop-left.left c.loop-left-test.true c.loop-left.invariant.1 in
     search rules
 

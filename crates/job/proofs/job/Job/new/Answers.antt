@@ -14,7 +14,7 @@ returns c =
       reads = search rules;
       count = search rules;
       used = search rules;
-      fits = answers_fit bs (All-from_get_or Byte bs 0 (λ i _. (c.type-inv.page i).fits));
+      fits = answers_fit bs (All-from_get_or Byte bs 0 (λ i _. (c.type_inv.page i).fits));
       roomy = never_8_or_10;
       lawful = keeps_the_law;
     }

@@ -23,46 +23,46 @@ record Broke (r : Result Step StepFault) (w : Walk) : Type 0 where
 broke : (r : Result Step StepFault) (w : Walk) (f : PageFault) → r ≡ Err (Page f) → stays w.place w.part w.rest.now (Err (told f)) ≡ stepped w.place w.part w.rest.now → Broke r w
 broke r w f e s = record { steps = ap (λ x. seen x w) e ∙ s; source = subst (λ x. IfErr x OfPage) (sym e) tt }
 
-pub returns-in-err-end : goal.returns-in-err-end
-returns-in-err-end c =
+pub returns-in_err-end : goal.returns-in_err-end
+returns-in_err-end c =
     let w : Walk = c.args.self.now in
-    let p = err_from_is_err_and c.from-residual.result c.from-residual.ensures.1 in
-    let b = broke c.from-residual.result w c.in-err-end.field-0.0 (p.1 ∙ ap Err p.2) (step_end w.place w.part w.rest.now _ (true-eqb _ 0 c.if-is-empty.ensures) c.in-err-end.ensures) in
+    let p = err_from_is_err_and c.from_residual.result c.from_residual.ensures.1 in
+    let b = broke c.from_residual.result w c.in_err-end.field-0.0 (p.1 ∙ ap Err p.2) (step_end w.place w.part w.rest.now _ (true-eqb _ 0 c.if-is_empty.ensures) c.in_err-end.ensures) in
     record { steps = b.steps; source = b.source; reads = reads_on _ _ _ _ b.steps; falls = falls_on _ _ _ _ b.steps; parts = parts_on w.place w.part w.rest.now _ b.steps }
 
-pub returns-then-is-empty : goal.returns-then-is-empty
-returns-then-is-empty c =
+pub returns-then-is_empty : goal.returns-then-is_empty
+returns-then-is_empty c =
     let w : Walk = c.args.self.now in
-    let s = step_end w.place w.part w.rest.now _ (true-eqb _ 0 c.if-is-empty.ensures) c.in-ok-end.ensures in
+    let s = step_end w.place w.part w.rest.now _ (true-eqb _ 0 c.if-is_empty.ensures) c.in_ok-end.ensures in
     record { steps = s; source = tt; reads = reads_on _ _ _ _ s; falls = falls_on _ _ _ _ s; parts = parts_on w.place w.part w.rest.now _ s }
 
-pub returns-in-err-placed : goal.returns-in-err-placed
-returns-in-err-placed c =
+pub returns-in_err-placed : goal.returns-in_err-placed
+returns-in_err-placed c =
     let w : Walk = c.args.self.now in
-    let f : PageFault = c.in-err-placed.field-0.0 in
-    let some : 0 < length w.rest.now = omega (arith, false-eqb _ 0 c.if-is-empty.ensures) in
-    let p = err_from_is_err_and c.from-residual-in-err-placed.result c.from-residual-in-err-placed.ensures.1 in
-    let b = broke c.from-residual-in-err-placed.result w f (p.1 ∙ ap Err p.2) (ap (λ q. stays w.place w.part w.rest.now (Err (told_at f.cause q))) c.in-err-placed.ensures.place ∙ step_bad w.place w.part w.rest.now f.cause some (sym c.in-err-placed.ensures.front)) in
+    let f : PageFault = c.in_err-placed.field-0.0 in
+    let some : 0 < length w.rest.now = omega (arith, false-eqb _ 0 c.if-is_empty.ensures) in
+    let p = err_from_is_err_and c.from_residual-in_err-placed.result c.from_residual-in_err-placed.ensures.1 in
+    let b = broke c.from_residual-in_err-placed.result w f (p.1 ∙ ap Err p.2) (ap (λ q. stays w.place w.part w.rest.now (Err (told_at f.cause q))) c.in_err-placed.ensures.place ∙ step_bad w.place w.part w.rest.now f.cause some (sym c.in_err-placed.ensures.front)) in
     record { steps = b.steps; source = b.source; reads = reads_on _ _ _ _ b.steps; falls = falls_on _ _ _ _ b.steps; parts = parts_on w.place w.part w.rest.now _ b.steps }
 
-pub returns-in-err-step : goal.returns-in-err-step
-returns-in-err-step c =
+pub returns-in_err-step : goal.returns-in_err-step
+returns-in_err-step c =
     let w : Walk = c.args.self.now in
-    let r : Rec = rec_of c.in-ok-placed.placed.record in
-    let p = err_from_is_err_and c.from-residual-in-err-step.result c.from-residual-in-err-step.ensures.1 in
-    let says = sym (ap (λ q. meant q w.part r) c.in-ok-placed.ensures.place) in
-    let b = broke c.from-residual-in-err-step.result w c.in-err-step.field-0.0 (p.1 ∙ ap Err p.2) (step_refused w.place w.part w.rest.now r c.in-ok-placed.after.now _ (sym c.in-ok-placed.ensures.front) (says ∙ sym c.in-err-step.ensures)) in
+    let r : Rec = rec_of c.in_ok-placed.placed.record in
+    let p = err_from_is_err_and c.from_residual-in_err-step.result c.from_residual-in_err-step.ensures.1 in
+    let says = sym (ap (λ q. meant q w.part r) c.in_ok-placed.ensures.place) in
+    let b = broke c.from_residual-in_err-step.result w c.in_err-step.field-0.0 (p.1 ∙ ap Err p.2) (step_refused w.place w.part w.rest.now r c.in_ok-placed.after.now _ (sym c.in_ok-placed.ensures.front) (says ∙ sym c.in_err-step.ensures)) in
     record { steps = b.steps; source = b.source; reads = reads_on _ _ _ _ b.steps; falls = falls_on _ _ _ _ b.steps; parts = parts_on w.place w.part w.rest.now _ b.steps }
 
 -- the record that was taken
-taken : (c : In-ok-placed) → Fronted c.args.self.now.rest.now (rec_of c.in-ok-placed.placed.record) c.in-ok-placed.after.now
-taken c = front_one _ _ _ (sym c.in-ok-placed.ensures.front)
+taken : (c : In-ok-placed) → Fronted c.args.self.now.rest.now (rec_of c.in_ok-placed.placed.record) c.in_ok-placed.after.now
+taken c = front_one _ _ _ (sym c.in_ok-placed.ensures.front)
 
 pub meaning-requires : goal.meaning-requires
 meaning-requires c = (taken (goal.at.meaning-requires c).In-ok-placed).size
 
-pub overflow-sub-self : goal.overflow-sub-self
-overflow-sub-self c = let t = taken (goal.at.overflow-sub-self c).In-ok-placed in omega arith
+pub overflow_sub-self : goal.overflow_sub-self
+overflow_sub-self c = let t = taken (goal.at.overflow_sub-self c).In-ok-placed in omega arith
 
 pub standing-requires : goal.standing-requires
 standing-requires c = let t = taken (goal.at.standing-requires c).In-ok-placed in omega arith
@@ -70,11 +70,11 @@ standing-requires c = let t = taken (goal.at.standing-requires c).In-ok-placed i
 pub returns : goal.returns
 returns c =
     let w : Walk = c.args.self.now in
-    let r : Rec = rec_of c.in-ok-placed.placed.record in
+    let r : Rec = rec_of c.in_ok-placed.placed.record in
     let t = taken (goal.at.returns c).In-ok-placed in
-    let left : List ℕ = c.in-ok-placed.after.now in
+    let left : List ℕ = c.in_ok-placed.after.now in
     let at = c.standing.ensures.place in
     let next : c.standing.result.place ≡ w.place + (4 + size_of r) = omega arith in
-    let says = sym (ap (λ q. meant q w.part r) c.in-ok-placed.ensures.place) in
-    let s = (λ i. record { answer = Ok c.in-ok-step.step; place = c.standing.result.place; part = (c.standing.ensures.part ∙ c.part-after.ensures) i; rest = c.standing.ensures.rest i }) ∙ step_one w.place c.standing.result.place w.part w.rest.now r left c.in-ok-step.step (sym c.in-ok-placed.ensures.front) next (says ∙ sym c.in-ok-step.ensures) in
+    let says = sym (ap (λ q. meant q w.part r) c.in_ok-placed.ensures.place) in
+    let s = (λ i. record { answer = Ok c.in_ok-step.step; place = c.standing.result.place; part = (c.standing.ensures.part ∙ c.part_after.ensures) i; rest = c.standing.ensures.rest i }) ∙ step_one w.place c.standing.result.place w.part w.rest.now r left c.in_ok-step.step (sym c.in_ok-placed.ensures.front) next (says ∙ sym c.in_ok-step.ensures) in
     record { steps = s; source = tt; reads = reads_on _ _ _ _ s; falls = falls_on _ _ _ _ s; parts = parts_on w.place w.part w.rest.now _ s }

@@ -12,34 +12,34 @@ use Rattle.page.specs.Appends.{outcome}
 use Rattle.page.proofs.Putting.{written_none, put_after, joined_length, put_more, appends_short, appends_fits}
 use Rattle.page.proofs.Kepts.{payload_length, bytes_length, kept_fits_where_short, kept_long}
 use Rattle.page.proofs.writer.Writer.append_kept.Goals as goal
-use Rattle.page.proofs.writer.Writer.append_kept.Goals.{then-count-gt-MOST-KEPT-via-then-count-gt-MOST-KEPT, then-count-gt-MOST-KEPT-via-else-count-gt-MOST-KEPT+then-not-has-room}
+use Rattle.page.proofs.writer.Writer.append_kept.Goals.{then-count-gt-MOST_KEPT-via-then-count-gt-MOST_KEPT, then-count-gt-MOST_KEPT-via-else-count-gt-MOST_KEPT+then-not-has_room}
 
-pub returns-then-count-gt-MOST-KEPT : goal.returns-then-count-gt-MOST-KEPT
-returns-then-count-gt-MOST-KEPT c =
+pub returns-then-count-gt-MOST_KEPT : goal.returns-then-count-gt-MOST_KEPT
+returns-then-count-gt-MOST_KEPT c =
     let used : ℕ = c.args.self.now.used in
     let page : List ℕ = c.args.page.now in
     let ks : List ℕ = c.args.numbers.now in
     let n : ℕ = c.args.number in
     let t : Totals = c.args.totals in
     ap (λ f. outcome (Err f) used page) c.at.ensures
-    ∙ elim c.then-count-gt-MOST-KEPT.branch [
-      | then-count-gt-MOST-KEPT-via-then-count-gt-MOST-KEPT w ↦ sym (cond-false _ _ _ (kept_long n t ks w.if-count-gt-MOST-KEPT.true))
-      | then-count-gt-MOST-KEPT-via-else-count-gt-MOST-KEPT+then-not-has-room w ↦ appends_short used _ page (kept_bytes n t ks) (bytes_length n t ks) w.if-not-has-room.ensures ∙ sym (cond-true _ _ _ (kept_fits_where_short n t ks w.if-count-gt-MOST-KEPT.false))
+    ∙ elim c.then-count-gt-MOST_KEPT.branch [
+      | then-count-gt-MOST_KEPT-via-then-count-gt-MOST_KEPT w ↦ sym (cond-false _ _ _ (kept_long n t ks w.if-count-gt-MOST_KEPT.true))
+      | then-count-gt-MOST_KEPT-via-else-count-gt-MOST_KEPT+then-not-has_room w ↦ appends_short used _ page (kept_bytes n t ks) (bytes_length n t ks) w.if-not-has_room.ensures ∙ sym (cond-true _ _ _ (kept_fits_where_short n t ks w.if-count-gt-MOST_KEPT.false))
     ]
 
 pub loop-n-init : goal.loop-n-init
 loop-n-init c =
-    let room = true-leb _ _ c.if-not-has-room.ensures in
+    let room = true-leb _ _ c.if-not-has_room.ensures in
     let enough : c.args.self.now.used + 24 ≤ length c.put-3.new.page = omega arith in
     (omega arith, written_none (c.args.self.now.used + 24) c.put-3.new.page enough)
 
 pub loop-n-preserved : goal.loop-n-preserved
 loop-n-preserved c =
-    let room = true-leb _ _ c.if-not-has-room.ensures in
+    let room = true-leb _ _ c.if-not-has_room.ensures in
     let first : List ℕ = c.put-3.new.page in
     let enough : c.loop-n.at + 2 ≤ length first = omega arith in (
       omega arith,
-      c.put-in-loop-n.ensures ∙ put_more (le 2) 2 (λ _. refl) c.args.numbers.now c.loop-n.n-index 0 (c.args.self.now.used + 24) c.loop-n.at c.loop-n.page first c.kept-number.result c.loop-n-test.true c.loop-n.invariant.0 enough c.loop-n.invariant.1 c.kept-number.ensures,
+      c.put-in-loop-n.ensures ∙ put_more (le 2) 2 (λ _. refl) c.args.numbers.now c.loop-n.n-index 0 (c.args.self.now.used + 24) c.loop-n.at c.loop-n.page first c.kept_number.result c.loop-n-test.true c.loop-n.invariant.0 enough c.loop-n.invariant.1 c.kept_number.ensures,
     )
 
 pub returns : goal.returns
@@ -49,7 +49,7 @@ returns c =
     let ks : List ℕ = c.args.numbers.now in
     let n : ℕ = c.args.number in
     let t : Totals = c.args.totals in
-    let room = true-leb _ _ c.if-not-has-room.ensures in
+    let room = true-leb _ _ c.if-not-has_room.ensures in
     let long = payload_length n t ks in
     let j = joined_length (le 2) 2 (λ _. refl) ks in
     let all : take c.loop-n.n-index ks ≡ ks = take_all c.loop-n.n-index ks c.loop-n-test.false in
@@ -57,9 +57,9 @@ returns c =
     let b : List ℕ = le 8 t.first in
     let d : List ℕ = le 8 t.second in
     let k : List ℕ = flat_map (le 2) ks in
-    let one : c.put.new.page ≡ written used page a = c.put.ensures ∙ ap (written used page) c.kept-start.ensures in
-    let two : c.put-2.new.page ≡ written used page (a ++ b) = put_after used (used + 8) page _ _ a b _ one c.put-2.ensures c.total-field.ensures refl (omega arith) in
-    let three : c.put-3.new.page ≡ written used page ((a ++ b) ++ d) = put_after used (used + 16) page _ _ (a ++ b) d _ two c.put-3.ensures c.total-field-2.ensures refl (omega arith) in
+    let one : c.put.new.page ≡ written used page a = c.put.ensures ∙ ap (written used page) c.kept_start.ensures in
+    let two : c.put-2.new.page ≡ written used page (a ++ b) = put_after used (used + 8) page _ _ a b _ one c.put-2.ensures c.total_field.ensures refl (omega arith) in
+    let three : c.put-3.new.page ≡ written used page ((a ++ b) ++ d) = put_after used (used + 16) page _ _ (a ++ b) d _ two c.put-3.ensures c.total_field-2.ensures refl (omega arith) in
     let four : c.loop-n.page ≡ written used page (((a ++ b) ++ d) ++ k) = put_after used (used + 24) page _ _ ((a ++ b) ++ d) k k three (c.loop-n.invariant.1 ∙ ap (λ l. written (used + 24) c.put-3.new.page (flat_map (le 2) l)) all) refl refl (omega arith) in
     let bytes : c.loop-n.page ≡ written used page (kept_bytes n t ks) = four ∙ sym (ap (λ m. written used page (le 2 m ++ (le 2 5 ++ kept_payload n t ks))) long) in
-    appends_fits used (24 + 2 * length ks) page (kept_bytes n t ks) (bytes_length n t ks) c.loop-n.at c.loop-n.page c.if-not-has-room.ensures (omega arith) bytes ∙ sym (cond-true _ _ _ (kept_fits_where_short n t ks c.if-count-gt-MOST-KEPT.false))
+    appends_fits used (24 + 2 * length ks) page (kept_bytes n t ks) (bytes_length n t ks) c.loop-n.at c.loop-n.page c.if-not-has_room.ensures (omega arith) bytes ∙ sym (cond-true _ _ _ (kept_fits_where_short n t ks c.if-count-gt-MOST_KEPT.false))

@@ -8,12 +8,12 @@ use Rattle.tray.specs.Trays.{points}
 use Rattle.tray.proofs.Tables.{length_points, at_points, limits_turned}
 use Rattle.tray.proofs.table.Table.set_mark.Goals as goal
 
-pub invariant-of-self : goal.invariant-of-self
-invariant-of-self c =
+pub invariant_of-self : goal.invariant_of-self
+invariant_of-self c =
     let m = c.args.self.now in
     let h : c.args.i - 1 < length m.points = omega arith in
     let k = limits_turned m.points (c.args.i - 1) c.args.mark h m.len m.placed m.rising m.short in
-    (rw length-set m.whole, (m.few, (k.0, (k.1, (k.2, tt)))))
+    record { whole = rw length-set m.whole; few = m.few; placed = k.0; rising = k.1; short = k.2 }
 
 pub returns : goal.returns
 returns c = record {
