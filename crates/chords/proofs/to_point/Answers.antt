@@ -4,7 +4,7 @@ use Rattle.tray.proofs.Tables.{lawful_points}
 use Rattle.chords.specs.Every.{counted}
 use Rattle.chords.proofs.Totals.{next_chord, some_small}
 use Rattle.chords.proofs.to_point.Goals as goal
-use Rattle.chords.proofs.to_point.Goals.{in-Some, in-default}
+use Rattle.chords.proofs.to_point.Goals.{in-Some, in_default}
 
 pub overflow_add-sum : goal.overflow_add-sum
 overflow_add-sum g c =
@@ -20,5 +20,5 @@ loop-i-preserved g c =
     let e = next_chord m (stroke c.args.stroke.now) c.args.j _ _ _ (omega arith) c.loop-i.invariant c.error.ensures in
     elim c.match-error.branch [
       | in-Some w ↦ omega (arith, e, ap counted w.in-Some.is, w.sum-is)
-      | in-default w ↦ omega (arith, e, ap counted w.in_default.is, w.sum-is)
+      | in_default w ↦ omega (arith, e, ap counted w.in_default.is, w.sum-is)
     ]

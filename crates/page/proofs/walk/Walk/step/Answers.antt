@@ -13,7 +13,7 @@ use Rattle.page.specs.Walks.{rec_of, seen}
 use Rattle.page.proofs.Framing.{Fronted, front_one}
 use Rattle.page.proofs.Stepping.{reads_on, falls_on, parts_on, step_one, step_refused, step_bad, step_end}
 use Rattle.page.proofs.walk.Walk.step.Goals as goal
-use Rattle.page.proofs.walk.Walk.step.Goals.{In-ok-placed}
+use Rattle.page.proofs.walk.Walk.step.Goals.{In_ok-placed}
 
 -- a refusal that came through `?` moves nothing
 record Broke (r : Result Step StepFault) (w : Walk) : Type 0 where
@@ -55,23 +55,23 @@ returns-in_err-step c =
     record { steps = b.steps; source = b.source; reads = reads_on _ _ _ _ b.steps; falls = falls_on _ _ _ _ b.steps; parts = parts_on w.place w.part w.rest.now _ b.steps }
 
 -- the record that was taken
-taken : (c : In-ok-placed) → Fronted c.args.self.now.rest.now (rec_of c.in_ok-placed.placed.record) c.in_ok-placed.after.now
+taken : (c : In_ok-placed) → Fronted c.args.self.now.rest.now (rec_of c.in_ok-placed.placed.record) c.in_ok-placed.after.now
 taken c = front_one _ _ _ (sym c.in_ok-placed.ensures.front)
 
 pub meaning-requires : goal.meaning-requires
-meaning-requires c = (taken (goal.at.meaning-requires c).In-ok-placed).size
+meaning-requires c = (taken (goal.at.meaning-requires c).In_ok-placed).size
 
 pub overflow_sub-self : goal.overflow_sub-self
-overflow_sub-self c = let t = taken (goal.at.overflow_sub-self c).In-ok-placed in omega arith
+overflow_sub-self c = let t = taken (goal.at.overflow_sub-self c).In_ok-placed in omega arith
 
 pub standing-requires : goal.standing-requires
-standing-requires c = let t = taken (goal.at.standing-requires c).In-ok-placed in omega arith
+standing-requires c = let t = taken (goal.at.standing-requires c).In_ok-placed in omega arith
 
 pub returns : goal.returns
 returns c =
     let w : Walk = c.args.self.now in
     let r : Rec = rec_of c.in_ok-placed.placed.record in
-    let t = taken (goal.at.returns c).In-ok-placed in
+    let t = taken (goal.at.returns c).In_ok-placed in
     let left : List ℕ = c.in_ok-placed.after.now in
     let at = c.standing.ensures.place in
     let next : c.standing.result.place ≡ w.place + (4 + size_of r) = omega arith in
