@@ -30,7 +30,7 @@ fn keep_by<M: Measure + Drop, T: Figures>(
     totals: &mut [T],
     list: &mut [u16],
 ) -> Result<Found, Refusal>
-    ensures says { spoken result list.new ≡ replied fields (reduced (task T.Total (over_span order.span (M.Measure.meaning below) (stroke_of stroke.now)) order.tolerance) (length (stroke_of stroke.now)) (lent (replicate 512 0) (replicate 512 0) totals.old list.old)) }
+    ensures says { spoken result list.new ≡ replied T.fields (reduced (task T.Total (over_span order.span (M.Measure.meaning below) (stroke_of stroke.now)) order.tolerance) (length (stroke_of stroke.now)) (lent (replicate 512 0) (replicate 512 0) totals.old list.old)) }
     ensures fits { IfOk result (λ f. f.count ≤ length list.new) }
 {
     let measure = Corners {
@@ -63,7 +63,7 @@ fn keep_as<T: Figures>(
     totals: &mut [T],
     list: &mut [u16],
 ) -> Result<Found, Refusal>
-    ensures says { spoken result list.new ≡ replied fields (reduced (task T.Total (layered order (stroke_of stroke.now)) order.tolerance) (length (stroke_of stroke.now)) (lent (replicate 512 0) (replicate 512 0) totals.old list.old)) }
+    ensures says { spoken result list.new ≡ replied T.fields (reduced (task T.Total (layered order (stroke_of stroke.now)) order.tolerance) (length (stroke_of stroke.now)) (lent (replicate 512 0) (replicate 512 0) totals.old list.old)) }
     ensures fits { IfOk result (λ f. f.count ≤ length list.new) }
 {
     match order.measure {

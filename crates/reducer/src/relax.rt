@@ -21,7 +21,7 @@ pub(crate) fn count(stroke: &Lifted) -> usize
 
 // The better of what was found and what the point i offers.
 fn chosen<T: Total>(found: Option<Step<T>>, i: u16, offered: Option<Pair<T>>) -> Option<Step<T>>
-    ensures { result ≡ choose order found i offered }
+    ensures { result ≡ choose T.order found i offered }
 {
     match offered {
         None => found,
@@ -80,7 +80,7 @@ fn best_step<M: Measure, T: Total>(
     j: usize,
 ) -> Option<Step<T>>
     requires { (1 ≤ j) × ((j ≤ 512) × ((j ≤ length counts.now) × ((j ≤ length totals.now) × (((i : ℕ) → 1 ≤ i → i < j → slice_index counts.now (i - 1) < 512))))) }
-    ensures { result ≡ scan order (offer (task T.Total (M.Measure.meaning measure.now (stroke_of stroke.now)) tolerance) counts.now totals.now j) (j - 1) }
+    ensures { result ≡ scan T.order (offer (task T.Total (M.Measure.meaning measure.now (stroke_of stroke.now)) tolerance) counts.now totals.now j) (j - 1) }
 {
     let mut found = None;
     for i in 1..j {
@@ -92,7 +92,7 @@ fn best_step<M: Measure, T: Total>(
 
 // What the tables hold of a point into which this was found.
 fn entry_of<T: Total>(found: Option<Step<T>>) -> Step<T>
-    ensures { result ≡ entered start found }
+    ensures { result ≡ entered T.start found }
 {
     match found {
         Some(step) => step,
