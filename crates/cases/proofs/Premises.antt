@@ -1,13 +1,12 @@
 -- The hook meets the premises of each law.
-use Rattle.std.proofs.Common.{◌≡◌, ℕ, List, [], ◌∷◌, ◌++◌, map, length, take, Ok, Err, Result, sym, refl, ap, ◌∙◌, arith, lit<}
+use Rattle.std.proofs.Common.{◌≡◌, ℕ, List, [], ◌∷◌, length, take, Ok, Err, Result, sym, refl, ap, ◌∙◌, arith, lit<}
 use mir.Facts.{sfits_lit}
-use Rattle.tray.specs.declared.point.Point.{Point}
 use Rattle.tray.specs.declared.causes.Refusal.{Refusal}
 use Rattle.tray.specs.Refusals.{tells}
 use Rattle.tray.specs.Stroke.{Lawful}
 use Rattle.tray.specs.Machine.{put_says, put_after}
 use Rattle.tray.specs.Reductions.{Reduction}
-use Rattle.tray.specs.History.{up, History, ◌▸◌, new, run, reduce}
+use Rattle.tray.specs.History.{up, ◌▸◌, new, reduce}
 use Rattle.tray.specs.Drawn.{Drawn, Permitted}
 use Rattle.tray.proofs.Drawns.{run_draws}
 use Rattle.tray.proofs.Lawfuls.{stays_lawful}
@@ -20,10 +19,9 @@ use Rattle.reducer.specs.declared.answer.Answer.{Answer}
 use Rattle.reducer.specs.Lent.{Lent}
 use Rattle.reducer.specs.Reduced.{done}
 use Rattle.reducer.specs.Law.{Right}
-use Rattle.reducer.specs.Runs.{Met, Run}
 use Rattle.reducer.proofs.Runs.{run_reduce}
 use Rattle.job.specs.Figures.{sum_figures}
-use Rattle.job.specs.Answer.{kept, drawing, replied, answer}
+use Rattle.job.specs.Answer.{kept, drawing, replied}
 use Rattle.job.specs.Calls.{calls_of, asked, ReducedBy}
 use Rattle.job.proofs.Keeping.{keeps_the_law}
 use Rattle.cases.specs.Premises.{hook_dots, hook_stroke, KeepsPoints, TwoReduces, PremisesMet}

@@ -4,7 +4,7 @@
 --   KeepsPoints   the reply is an answer of so many points
 --   TwoReduces    a history with two answered reduces of the hook, the second with a wider tolerance, that is a run
 --   PremisesMet   a lawful stroke, a history that the pen permits, points that are all put, a stroke that fits a page, and those reduces
-use Rattle.std.specs.Prelude.{◌≡◌, ℕ, ◌<◌, Bool, List, [], ◌∷◌, ℤ, pos, Ok}
+use Rattle.std.specs.Prelude.{◌≡◌, ℕ, ◌<◌, List, [], ◌∷◌, ℤ, pos, Ok}
 use Rattle.tray.specs.declared.point.Mark.TheVariants.{Plain}
 use Rattle.tray.specs.Stroke.{Lawful}
 use Rattle.tray.specs.Reductions.{Reduction, Reply, answered, refused}

@@ -1,12 +1,7 @@
 -- What the codes of an order name.
-use Rattle.std.proofs.Common.{◌≡◌, ℕ, true, false, cond, eqb, sym, refl, ap, ◌∙◌, subst, arith}
+use Rattle.std.proofs.Common.{◌≡◌, ℕ, true, false, cond, eqb, ◌∙◌, arith}
 use Rattle.std.proofs.lemmas.Bool.Decides.{nat_tests}
 use Rattle.std.proofs.lemmas.Bool.{cond-true, cond-false}
-use Rattle.tray.specs.Reductions.{Meaning}
-use Rattle.measure.specs.Synchronous.{synchronous}
-use Rattle.measure.specs.Distance.{distance}
-use Rattle.measure.specs.Area.{area}
-use Rattle.job.specs.Answer.{measure_of}
 
 is : (c n : ℕ) → c ≡ n → eqb c n ≡ true
 is c n e = grind (arith, nat_tests)

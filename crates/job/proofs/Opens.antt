@@ -1,11 +1,9 @@
 -- An open stroke with one point more.
-use Rattle.std.proofs.Common.{◌≡◌, ℕ, ◌+◌, Bool, true, false, List, [], ◌∷◌, ◌++◌, map, length, take, is_some, Some, None, Ok, Err, Option, Result, sym, refl, ap, ◌∙◌, subst}
+use Rattle.std.proofs.Common.{◌≡◌, ℕ, ◌+◌, true, false, List, [], ◌∷◌, ◌++◌, map, length, take, is_some, Some, None, Ok, Option, sym, refl, ap, ◌∙◌}
 use Rattle.std.proofs.lemmas.Bool.{both_ways}
 use Rattle.std.proofs.lemmas.List.{length-map}
-use Rattle.refusal.specs.declared.Told.{Told}
 use Rattle.tray.specs.declared.point.Point.{Point}
 use Rattle.tray.specs.declared.causes.Refusal.{Refusal}
-use Rattle.tray.specs.Refusals.{told}
 use Rattle.tray.specs.Trays.{writing}
 use Rattle.page.specs.declared.kinds.Point.{Point as Dot}
 use Rattle.job.specs.declared.open.OpenStroke.{OpenStroke}

@@ -1,12 +1,12 @@
 -- What an answered put tells, and what the puts of a stroke make.
-use Rattle.std.proofs.Common.{◌≡◌, ℕ, ◌+◌, ◌<◌, true, false, ◌⊎◌, List, [], ◌∷◌, ◌++◌, map, length, take, set, ℤ, is_ok, Ok, Err, Result, sym, refl, ap, ◌∙◌, subst, inl, inr, arith}
+use Rattle.std.proofs.Common.{◌≡◌, ℕ, ◌+◌, ◌<◌, true, false, List, [], ◌∷◌, ◌++◌, map, length, take, set, ℤ, is_ok, Ok, Err, Result, sym, refl, ap, ◌∙◌, subst, inl, inr, arith}
 use mathlib.Core.List.{foldl, foldl-append}
 use Rattle.std.proofs.lemmas.Bool.{both_ways, leb-false}
 use Rattle.std.proofs.lemmas.List.{take_more_set, map_push, length_push, length-map, append-nil, append_assoc}
 use Rattle.refusal.specs.declared.Told.{Told}
 use Rattle.tray.specs.declared.point.Point.{Point}
 use Rattle.tray.specs.declared.point.Mark.{Mark}
-use Rattle.tray.specs.Machine.{plain, full, put_says, put_after}
+use Rattle.tray.specs.Machine.{plain, put_says, put_after}
 use Rattle.tray.proofs.Puts.{does_add}
 use Rattle.tray.proofs.Lawfuls.{outcome}
 use Rattle.page.specs.declared.kinds.Point.{Point as Dot}

@@ -1,5 +1,5 @@
 -- What a step of a walk tells, where its answer is known.
-use Rattle.std.proofs.Common.{◌≡◌, ℕ, List, [], length, Ok, Err, Result, subst}
+use Rattle.std.proofs.Common.{◌≡◌, ℕ, List, [], length, Ok, Result, subst}
 use Rattle.refusal.specs.Said.{said}
 use Rattle.page.specs.declared.fault.StepFault.{StepFault}
 use Rattle.page.specs.declared.walk.Walk.{Walk}
@@ -8,7 +8,7 @@ use Rattle.page.specs.declared.kinds.Part.TheVariants.{Outside, Inside}
 use Rattle.page.specs.declared.kinds.Step.{Step}
 use Rattle.page.specs.declared.kinds.Point.{Point as Dot}
 use Rattle.page.specs.Faults.{step_told}
-use Rattle.page.specs.Steps.{outside, inside, state_of, read_on, read_from, part_after}
+use Rattle.page.specs.Steps.{outside, inside, state_of, read_on, read_from}
 use Rattle.page.specs.Walks.{seen, Falls, Parts}
 use Rattle.job.specs.Whole.{left, from_within}
 

@@ -9,7 +9,7 @@
 --   kept_by              the answer by one kind of total
 --   answer_of            the answer by the kind of total that an order names
 --   answer               the answer of a stroke
-use Rattle.std.specs.Prelude.{ℕ, cond, List, [], ◌∷◌, map, length, take, replicate, Ok, Err, Result, ◌==◌}
+use Rattle.std.specs.Prelude.{ℕ, cond, List, [], map, length, take, replicate, Ok, Err, Result, ◌==◌}
 use mathlib.Core.List.{foldl}
 use Rattle.refusal.specs.declared.Told.{Told}
 use Rattle.tray.specs.declared.point.Point.{Point}

@@ -7,7 +7,7 @@
 --   More          how many bytes a call leaves
 --   Side          a refusal is the page's where no stroke is left to read, and the answer page's where one is
 --   RunSide      the same at the end of a whole job, by the strokes that it did not answer
-use Rattle.std.specs.Prelude.{◌≡◌, ℕ, ◌+◌, ◌<◌, cond, List, [], ◌∷◌, length, drop, Some, None, Ok, Err, Option, Result, nat_le}
+use Rattle.std.specs.Prelude.{ℕ, ◌+◌, ◌<◌, cond, List, [], ◌∷◌, length, drop, Some, None, Ok, Err, Option, Result, nat_le}
 use Rattle.refusal.specs.declared.Told.{Told}
 use Rattle.page.specs.declared.fault.PageCause.TheVariants.{ShortPage}
 use Rattle.page.specs.declared.fault.StepFault.{StepFault}

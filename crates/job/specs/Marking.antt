@@ -1,7 +1,7 @@
 -- Marks set on the points of a stroke.
 --   cornered_by ms qs   the points qs, those made corners that ms says are
 --   marked_at m qs k    the same for one of them
-use Rattle.std.specs.Prelude.{ℕ, List, [], ◌∷◌, set, slice_set}
+use Rattle.std.specs.Prelude.{ℕ, List, [], ◌∷◌, slice_set}
 use Rattle.tray.specs.declared.point.Point.{Point}
 use Rattle.tray.specs.declared.point.Mark.{Mark}
 use Rattle.tray.specs.declared.point.Mark.TheVariants.{Plain, Corner}

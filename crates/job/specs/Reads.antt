@@ -10,10 +10,8 @@ use Rattle.page.specs.declared.fault.StepFault.{StepFault}
 use Rattle.page.specs.declared.kinds.Part.{Part}
 use Rattle.page.specs.declared.kinds.Part.TheVariants.{Outside, Inside}
 use Rattle.page.specs.declared.kinds.Point.{Point as Dot}
-use Rattle.page.specs.declared.kinds.Order.{Order}
 use Rattle.page.specs.Faults.{step_told}
-use Rattle.page.specs.Strokes.{Stroke}
-use Rattle.page.specs.Steps.{Reading, accepted, refused_by, State, outside, inside, closed, read_from}
+use Rattle.page.specs.Steps.{Reading, accepted, refused_by, outside, inside, closed, read_from}
 use Rattle.job.specs.declared.inner.Inner.{Inner}
 use Rattle.job.specs.declared.inner.Inner.TheVariants.{Point as Next, Finish}
 

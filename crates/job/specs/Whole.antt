@@ -10,7 +10,7 @@ use Rattle.page.specs.declared.kinds.Part.TheVariants.{Outside}
 use Rattle.page.specs.declared.kinds.Point.{Point as Dot}
 use Rattle.page.specs.declared.kinds.Order.{Order}
 use Rattle.page.specs.Faults.{step_told}
-use Rattle.page.specs.Strokes.{Stroke, stroke_of}
+use Rattle.page.specs.Strokes.{Stroke}
 use Rattle.page.specs.Steps.{Reading, accepted, outside, inside, closed, read_from}
 use Rattle.job.specs.declared.open.OpenStroke.{OpenStroke}
 use Rattle.job.specs.declared.whole.WholeStroke.{WholeStroke}

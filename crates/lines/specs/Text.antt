@@ -5,7 +5,7 @@
 --   refused_text    the number and the place of a refusal
 --   line_text       the line of a stroke
 --   refusal_text    the line of a refusal by a page or by the program
-use Rattle.std.specs.Prelude.{ℕ, cond, List, [], ◌∷◌, ◌++◌, codes, decimal, ◌==◌}
+use Rattle.std.specs.Prelude.{ℕ, cond, List, [], ◌++◌, codes, decimal, ◌==◌}
 use Rattle.std.specs.List.{flat_map}
 use Rattle.refusal.specs.declared.Told.{Told}
 use Rattle.refusal.specs.declared.Layer.{Layer}

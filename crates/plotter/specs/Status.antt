@@ -1,7 +1,6 @@
 -- What a caller in another language is told.
 --   status_of   how many strokes were answered, and the number and the place of the refusal; number 0 where there is none
 use Rattle.std.specs.Prelude.{ℕ}
-use Rattle.refusal.specs.declared.Told.{Told}
 use Rattle.page.specs.Steps.{Ending, accepted, refused_by}
 use Rattle.job.specs.Jobs.{Outcome}
 use Rattle.plotter.specs.declared.Status.{Status}

@@ -1,6 +1,6 @@
 -- What is computed keeps the law.
-use Rattle.std.proofs.Common.{◌≡◌, ℕ, ◌+◌, ◌-◌, ◌<◌, ◌≤◌, Bool, true, false, cond, ◌||◌, eqb, ltb, leb, ◌⊎◌, List, ◌++◌, map, length, get_or, take, drop, Ok, Err, Result, sym, refl, ap, ◌∙◌, subst, inl, inr, ⊎_elim, arith}
-use Rattle.std.proofs.lemmas.List.{drop_at, take_at, get_or_append_left, length-map, length-append}
+use Rattle.std.proofs.Common.{◌≡◌, ℕ, ◌-◌, ◌<◌, ◌≤◌, true, false, ◌||◌, eqb, ltb, leb, ◌⊎◌, List, ◌++◌, map, length, get_or, drop, Ok, Err, Result, sym, refl, ◌∙◌, subst, inl, inr, arith}
+use Rattle.std.proofs.lemmas.List.{drop_at, take_at, get_or_append_left, length-map}
 use Rattle.std.proofs.lemmas.Bool.Decides.{nat_tests}
 use Rattle.std.proofs.lemmas.Bool.{cases_Bool, leb-true, leb-false, ltb-true, ltb-false, cond-true, cond-false}
 use Rattle.tray.specs.declared.causes.Refusal.{Refusal}
@@ -9,10 +9,9 @@ use Rattle.tray.specs.Refusals.{tells as says}
 use Rattle.total.specs.Laws.{limit}
 use Rattle.reducer.specs.declared.answer.Answer.{Answer}
 use Rattle.reducer.specs.declared.step.Step.{Step}
-use Rattle.reducer.specs.Chains.{Task, Entry, Filled, Relaxed, Answered}
+use Rattle.reducer.specs.Chains.{Task, Relaxed, Answered}
 use Rattle.reducer.specs.Scan.{reached}
-use Rattle.reducer.specs.Trail.{Led, trail}
-use Rattle.reducer.specs.Lent.{Lent, Room, Tight}
+use Rattle.reducer.specs.Lent.{Lent, Room}
 use Rattle.reducer.specs.Outcome.{Searched, Outcome}
 use Rattle.reducer.specs.Reduced.{entries, counts_of, preds_of, totals_of, chords, needed, best_total, kept_list, filled, short, done, searched, reduced, Done}
 use Rattle.reducer.proofs.Optimal.{Sound, entry_cut}

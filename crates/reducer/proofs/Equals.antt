@@ -1,5 +1,5 @@
 -- What a reduce says and leaves is what is computed.
-use Rattle.std.proofs.Common.{◌≡◌, ℕ, zero, suc, ◌+◌, ◌-◌, ◌<◌, ◌≤◌, Bool, true, false, cond, ◌||◌, eqb, ltb, leb, ◌⊎◌, List, [], ◌∷◌, ◌++◌, length, get_or, take, drop, Ok, Err, Result, sym, refl, ap, ◌∙◌, subst, inl, inr, ⊎_elim, arith}
+use Rattle.std.proofs.Common.{◌≡◌, ℕ, ◌-◌, ◌<◌, ◌≤◌, true, false, ◌||◌, eqb, ltb, leb, ◌⊎◌, List, ◌++◌, length, get_or, take, drop, Ok, Err, Result, sym, refl, ap, ◌∙◌, subst, ⊎_elim, arith}
 use Rattle.std.proofs.lemmas.List.{take-append-drop, length-map}
 use Rattle.std.proofs.lemmas.Bool.Decides.{nat_tests}
 use Rattle.std.proofs.lemmas.Bool.{cases_Bool, le-leb, cond-true, cond-false}
@@ -11,9 +11,9 @@ use Rattle.reducer.specs.declared.answer.Answer.{Answer}
 use Rattle.reducer.specs.Chains as chains
 use Rattle.reducer.specs.Chains.{Task, Answered, Entry, Cut}
 use Rattle.reducer.specs.Scan.{reached}
-use Rattle.reducer.specs.Lent.{Lent, lent, Room, Tight}
-use Rattle.reducer.specs.Outcome.{Searched, Lists, Lacks, Outcome}
-use Rattle.reducer.specs.Reduced.{entries, counts_of, preds_of, totals_of, chords, needed, best_total, kept_list, filled, short, done, refusing, searched, reduced}
+use Rattle.reducer.specs.Lent.{Lent, lent}
+use Rattle.reducer.specs.Outcome.{Searched, Outcome}
+use Rattle.reducer.specs.Reduced.{entries, counts_of, preds_of, totals_of, chords, needed, best_total, kept_list, filled, done, refusing, searched, reduced}
 use Rattle.reducer.proofs.Optimal.{Sound, entry_best, entry_cut, best_unique}
 use Rattle.reducer.proofs.Unique.{kept_unique}
 use Rattle.reducer.proofs.Walks.{walked}

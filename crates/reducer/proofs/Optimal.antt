@@ -1,12 +1,12 @@
 -- What the scan finds from filled tables is the next entry of them.
-use Rattle.std.proofs.Common.{◌≡◌, ℕ, zero, suc, ◌+◌, ◌-◌, ◌<◌, ◌≤◌, Bool, true, false, cond, not, ◌&&◌, ◌||◌, eqb, ltb, leb, ◌⊎◌, List, [], ◌∷◌, ◌++◌, length, get_or, Some, None, Option, sym, refl, ap, ◌∙◌, subst, inl, inr, ⊎_elim, arith}
-use mathlib.Core.List.{foldl, foldl-append}
+use Rattle.std.proofs.Common.{◌≡◌, ℕ, ◌+◌, ◌-◌, ◌<◌, ◌≤◌, Bool, true, false, cond, ◌||◌, eqb, ltb, leb, List, [], ◌∷◌, ◌++◌, length, get_or, Some, None, Option, sym, refl, ap, ◌∙◌, subst, ⊎_elim, arith}
+use mathlib.Core.List.{foldl-append}
 use Rattle.std.proofs.lemmas.Bool.Decides.{nat_tests}
-use Rattle.std.proofs.lemmas.Bool.{cases_lt, cases_Bool, both_ways, cond_both, leb-true, le-leb}
+use Rattle.std.proofs.lemmas.Bool.{cases_Bool, both_ways, leb-true, le-leb}
 use Rattle.std.proofs.lemmas.List.{length_push, nil_from_length}
 use Rattle.total.specs.Laws.{Held, none, one, both, Laws, limit}
 use Rattle.reducer.specs.Chains.{Task, Lawful, Chain, alone, more, total, Best, Turns, Cut, Entry, origin, unreached, reached, Filled}
-use Rattle.reducer.specs.Scan.{choose, scan, step, extend, offer, entered, reached as is_reached}
+use Rattle.reducer.specs.Scan.{scan, extend, offer, entered}
 use Rattle.total.specs.Pairs.{better, pair}
 use Rattle.total.specs.declared.pair.Pair.{Pair}
 use Rattle.reducer.specs.declared.step.Step.{Step}

@@ -1,5 +1,5 @@
 -- What the reducer promises of its tables makes each of its calls right.
-use Rattle.std.proofs.Common.{◌≡◌, ℕ, ◌+◌, ◌-◌, ◌<◌, ◌≤◌, min, Bool, true, ◌&&◌, ◌⊎◌, List, [], ◌∷◌, ◌++◌, length, take, Some, Ok, Err, Option, Result, sym, refl, ap, ◌∙◌, subst, inl, inr, ⊎_elim, arith}
+use Rattle.std.proofs.Common.{◌≡◌, ℕ, ◌+◌, ◌-◌, ◌<◌, ◌≤◌, true, ◌&&◌, List, length, take, Some, Ok, Err, Option, Result, sym, refl, ap, ◌∙◌, subst, inl, inr, ⊎_elim, arith}
 use Rattle.std.proofs.lemmas.Bool.{and_from}
 use Rattle.std.proofs.lemmas.List.{length_push}
 use Rattle.total.specs.declared.total.Total.{Ghosts}
@@ -10,11 +10,11 @@ use Rattle.tray.specs.declared.causes.Refusal.TheVariants.{OffSheet, StoppedCloc
 use Rattle.total.specs.Laws.{Laws, limit}
 use Rattle.reducer.specs.Chains as chains
 use Rattle.reducer.specs.Chains.{Task, task, LawfulChain, alone, more, total, Answered}
-use Rattle.tray.specs.Reductions.{Meaning, Reduction, Reply}
+use Rattle.tray.specs.Reductions.{Meaning, Reduction}
 use Rattle.reducer.specs.Recorded.{reduction}
 use Rattle.reducer.specs.Lent.{Lent}
 use Rattle.reducer.specs.Outcome.{Outcome}
-use Rattle.reducer.specs.Law.{Chain, Whole, Best, Turns, Kept, first, next, Keeps, Searched, Right}
+use Rattle.reducer.specs.Law.{Whole, Best, Turns, Kept, first, next, Keeps, Searched, Right}
 use Rattle.reducer.proofs.Optimal.{Sound, best_unique, chain_held, few_chords, total_push, turns_chain, turns_chords, turns_sums}
 
 pub chain_points : {f : ℕ → ℕ → Option ℕ} {t : ℕ} {ks es : List ℕ} {j : ℕ} → LawfulChain f t ks j es → length ks ≡ length es + 1

@@ -1,11 +1,11 @@
 -- A full history with one call more.
-use Rattle.std.proofs.Common.{◌≡◌, ℕ, ◌+◌, ◌<◌, ◌≤◌, true, ◌⊎◌, List, [], ◌∷◌, ◌++◌, length, Some, Option, sym, refl, ap, ◌∙◌, subst, inl, inr, ⊎_elim, arith}
+use Rattle.std.proofs.Common.{◌≡◌, ℕ, ◌≤◌, ◌⊎◌, List, [], ◌∷◌, ◌++◌, Option, sym, refl, ap, ◌∙◌, subst, inl, inr, ⊎_elim, arith}
 use Rattle.tray.specs.declared.point.Point.{Point}
-use Rattle.tray.specs.History.{State, Pen, down, up, at_pen, new, run, step, step_at, Call, put, take_back, lift, mark, unmark, clear, reduce, History, ◌▸◌}
+use Rattle.tray.specs.History.{State, Pen, down, up, at_pen, step, Call, reduce, History, ◌▸◌}
 use Rattle.tray.specs.Drawn.{Drawn, fresh, reduced, Permits}
 use Rattle.reducer.specs.Chains.{LawfulChain, alone, more}
 use Rattle.tray.specs.Reductions.{Reduction, Reply, answered, refused}
-use Rattle.reducer.specs.Law.{Right, Law, Keeps, Wider, KeepsNoMore, KeepsIfAnswered, Whole}
+use Rattle.reducer.specs.Law.{Right, Law, Wider, KeepsNoMore, KeepsIfAnswered, Whole}
 use Rattle.reducer.specs.Runs.{Met, EachRight, TwoAgree, Run, GoesOn, NoReduce, StepsGoOn}
 use Rattle.tray.proofs.Drawns.{drawn_is, drawn_step}
 

@@ -1,5 +1,5 @@
 -- The step of a scan.
-use Rattle.std.proofs.Common.{◌≡◌, ℕ, zero, suc, ◌+◌, ◌-◌, ◌<◌, ◌≤◌, Bool, Option, sym, refl, ap, ◌∙◌, arith}
+use Rattle.std.proofs.Common.{◌≡◌, ℕ, zero, suc, ◌+◌, ◌-◌, ◌≤◌, Bool, Option, sym, ap, ◌∙◌, arith}
 use Rattle.reducer.specs.Scan.{choose, scan}
 use Rattle.total.specs.declared.pair.Pair.{Pair}
 

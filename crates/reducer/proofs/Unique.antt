@@ -1,8 +1,8 @@
 -- The tables and the kept chain are determined.
-use Rattle.std.proofs.Common.{◌≡◌, ℕ, zero, suc, ◌+◌, ◌-◌, ◌<◌, ◌≤◌, ◌⊎◌, List, [], ◌∷◌, ◌++◌, sym, refl, ap, ◌∙◌, subst, inl, inr, ⊎_elim, arith}
+use Rattle.std.proofs.Common.{◌≡◌, ℕ, ◌<◌, List, [], ◌∷◌, ◌++◌, sym, refl, ap, ◌∙◌, subst, ⊎_elim, arith}
 use Rattle.std.proofs.lemmas.Bool.{cases_order}
-use Rattle.reducer.specs.Chains.{Task, Chain, alone, Best, Turns, Cut, Entry, origin, unreached, reached, Kept, first, next}
-use Rattle.reducer.proofs.Optimal.{Sound, best_unique, best_first}
+use Rattle.reducer.specs.Chains.{Task, alone, Best, Turns, Cut, Entry, origin, unreached, reached, Kept, first, next}
+use Rattle.reducer.proofs.Optimal.{Sound, best_unique}
 
 module _ {A : Type 0} (k : Task A) (n : ℕ) (ok : Sound k n) where
   turns_as : (i j m m' : ℕ) (t t' : A) → m ≡ m' → t ≡ t' → Turns k i j m t → Turns k i j m' t'

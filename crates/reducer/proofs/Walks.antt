@@ -1,9 +1,9 @@
 -- The predecessors lead back along the kept chain.
-use Rattle.std.proofs.Common.{◌≡◌, ℕ, zero, suc, ◌+◌, ◌-◌, ◌<◌, ◌≤◌, Bool, true, false, ◌||◌, eqb, ltb, ◌⊎◌, List, [], ◌∷◌, ◌++◌, length, get_or, sym, refl, ap, ◌∙◌, subst, inl, inr, ⊎_elim, arith}
+use Rattle.std.proofs.Common.{◌≡◌, ℕ, zero, suc, ◌+◌, ◌-◌, ◌<◌, ◌≤◌, true, ◌||◌, eqb, ltb, ◌⊎◌, List, [], ◌∷◌, ◌++◌, length, get_or, sym, refl, ap, ◌∙◌, subst, ⊎_elim, arith}
 use Rattle.std.proofs.lemmas.Bool.Decides.{nat_tests}
 use Rattle.std.proofs.lemmas.Bool.{cases_Bool}
 use Rattle.std.proofs.lemmas.List.{length_push}
-use Rattle.reducer.specs.Chains.{Task, Chain, alone, more, total, Best, Turns, Cut, Entry, origin, unreached, reached, Filled, Kept, first, next, Answered}
+use Rattle.reducer.specs.Chains.{Task, Chain, alone, more, Best, Turns, Entry, origin, unreached, reached, Filled, Kept, first, next, Answered}
 use Rattle.reducer.specs.Trail.{trail, Led}
 use Rattle.reducer.proofs.Optimal.{Sound, entry_best, entry_cut, best_unique, best_first, total_push}
 

@@ -1,12 +1,12 @@
 -- The law shuts out each worthless reply, and a stroke has one kept chain.
-use Rattle.std.proofs.Common.{◌≡◌, ℕ, ◌<◌, ◌≤◌, Bool, true, false, ◌⊎◌, List, [], ◌∷◌, ◌++◌, length, Some, Option, sym, refl, ap, ◌∙◌, subst, inl, inr, ⊎_elim, arith}
+use Rattle.std.proofs.Common.{◌≡◌, ℕ, ◌<◌, ◌≤◌, Bool, List, [], ◌∷◌, ◌++◌, length, Some, Option, sym, refl, ap, ◌∙◌, subst, ⊎_elim, arith}
 use Rattle.std.proofs.lemmas.Bool.{both_ways, cases_order}
 use Rattle.std.proofs.lemmas.List.{length_push, same_from_push}
 use Rattle.tray.specs.declared.point.Point.{Point}
 use Rattle.reducer.specs.Chains.{LawfulChain, alone, more}
-use Rattle.tray.specs.Reductions.{Reduction, Reply, answered, refused}
-use Rattle.reducer.specs.Law.{Whole, Turns, Kept, first, next, Keeps, KeepsIfAnswered, IsAnswered, SaysNoWay, Searched, Right}
-use Rattle.reducer.specs.Worthless.{ShutOut, ShutsOut, OneKept}
+use Rattle.tray.specs.Reductions.{Reduction, Reply, answered}
+use Rattle.reducer.specs.Law.{Turns, Kept, first, next, Keeps, KeepsIfAnswered, IsAnswered, SaysNoWay, Right}
+use Rattle.reducer.specs.Worthless.{ShutOut, OneKept}
 
 some_same : {X : Type 0} (o : Option X) (x y : X) → o ≡ Some x → o ≡ Some y → x ≡ y
 some_same o x y p q = cc

@@ -8,7 +8,6 @@
 --   Wider           what a reduce owes to one with no greater tolerance
 --   Law             it is right, and agrees with each other reduce that is right
 use Rattle.std.specs.Prelude.{◌≡◌, ℕ, ◌<◌, ◌≤◌, Bool, true, ◌⊎◌, List, [], ◌∷◌, ◌++◌, length}
-use Rattle.refusal.specs.declared.Told.{Told}
 use Rattle.tray.specs.declared.point.Point.{Point}
 use Rattle.tray.specs.Reductions.{Reduction, Reply, answered, refused}
 use Rattle.total.specs.Laws.{limit}

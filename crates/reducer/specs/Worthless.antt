@@ -4,7 +4,7 @@
 use Rattle.std.specs.Prelude.{◌≡◌, ℕ, ◌<◌, ◌≤◌, Bool, false, List, [], ◌∷◌, length, Some, ◌≢◌}
 use Rattle.refusal.specs.declared.Told.{Told}
 use Rattle.tray.specs.declared.point.Point.{Point}
-use Rattle.tray.specs.Reductions.{Reduction, Reply, answered, refused}
+use Rattle.tray.specs.Reductions.{Reduction, answered, refused}
 use Rattle.reducer.specs.Law.{Whole, Kept, Searched, Right}
 
 pub record ShutOut (stroke : List Point) (r : Reduction) : Type 0 where

@@ -1,7 +1,7 @@
 -- What each refusal of a tray tells.
 --   told    its number, its place and its layer, cause by cause
 --   tells   what a call says: its answer, or what its refusal tells
-use Rattle.std.specs.Prelude.{ℕ, Result}
+use Rattle.std.specs.Prelude.{Result}
 use Rattle.refusal.specs.declared.Told.{Told}
 use Rattle.refusal.specs.declared.Layer.TheVariants.{Tray}
 use Rattle.refusal.specs.Said.{said, at_layer}

@@ -5,7 +5,7 @@
 --   Rising          times rise strictly
 --   Short           no time is more than 8,191 ticks above the first
 --   Lawful          these three, and at most 512 points
-use Rattle.std.specs.Prelude.{ℕ, ◌+◌, ◌-◌, ◌<◌, ◌≤◌, List, [], ◌∷◌, ◌++◌, length, ℤ, pos, negsuc, ◌≤ℤ◌, slice_index_or}
+use Rattle.std.specs.Prelude.{ℕ, ◌+◌, ◌-◌, ◌<◌, ◌≤◌, List, length, pos, negsuc, ◌≤ℤ◌, slice_index_or}
 use Rattle.tray.specs.declared.point.Point.{Point}
 use Rattle.tray.specs.declared.point.Mark.TheVariants.{Plain}
 

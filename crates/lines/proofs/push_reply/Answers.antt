@@ -1,4 +1,4 @@
-use Rattle.std.proofs.Common.{◌≡◌, ℕ, List, ◌++◌, take, string_bytes, codes, Result, sym, ap, ◌∙◌}
+use Rattle.std.proofs.Common.{ℕ, List, ◌++◌, take, string_bytes, codes, Result, sym, ap, ◌∙◌}
 use Rattle.tray.specs.declared.causes.Refusal.{Refusal}
 use Rattle.page.specs.declared.kinds.Totals.{Totals}
 use Rattle.job.specs.Records.{shown_as}

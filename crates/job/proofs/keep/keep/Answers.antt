@@ -5,7 +5,7 @@ use Rattle.reducer.specs.Chains.{task}
 use Rattle.reducer.specs.Lent.{lent}
 use Rattle.reducer.specs.Reduced.{reduced}
 use Rattle.job.specs.Figures.{sum_figures, worst_figures, both_figures}
-use Rattle.job.specs.Answer.{spoken, replied, layered, kept_by}
+use Rattle.job.specs.Answer.{spoken, replied, layered}
 use Rattle.job.proofs.Codes.{by_1, by_2, by_rest}
 use Rattle.job.proofs.keep.keep.Goals as goal
 

@@ -7,7 +7,7 @@ use Rattle.measure.specs.Area.{area}
 use Rattle.reducer.specs.Chains.{task}
 use Rattle.reducer.specs.Lent.{lent}
 use Rattle.reducer.specs.Reduced.{reduced}
-use Rattle.job.specs.Answer.{spoken, replied, over_span, measure_of}
+use Rattle.job.specs.Answer.{spoken, replied, over_span}
 use Rattle.job.proofs.Codes.{by_1, by_2, by_rest}
 use Rattle.job.proofs.keep.keep_as.Goals as goal
 

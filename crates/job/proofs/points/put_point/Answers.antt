@@ -1,7 +1,7 @@
-use Rattle.std.proofs.Common.{◌≡◌, ◌+◌, ◌-◌, length, ℤ, Ok, sym, refl, ap, ◌∙◌, subst, arith, rules}
+use Rattle.std.proofs.Common.{◌≡◌, ◌-◌, length, Ok, arith, rules}
 use Rattle.tray.specs.Machine.{put_says}
 use Rattle.tray.specs.Trays.{writing}
-use Rattle.job.proofs.Puts.{Added, added, noted}
+use Rattle.job.proofs.Puts.{added, noted}
 use Rattle.job.proofs.points.put_point.Goals as goal
 
 pub says : (c : goal.In-Ok) → Ok c.in-Ok.number ≡ put_says (writing c.args.tray.now).points c.args.p.x c.args.p.y c.args.p.t

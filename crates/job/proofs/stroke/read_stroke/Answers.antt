@@ -1,4 +1,4 @@
-use Rattle.std.proofs.Common.{◌≡◌, ℕ, ◌<◌, [], length, Some, Ok, Option, refl, ◌∙◌, subst, arith}
+use Rattle.std.proofs.Common.{◌≡◌, ℕ, ◌<◌, [], length, Ok, Option, refl, ◌∙◌, subst, arith}
 use Rattle.page.specs.Strokes.{stroke_of}
 use Rattle.job.specs.Reads.{begun, Fewer}
 use Rattle.job.specs.Whole.{left, from_within}

@@ -1,4 +1,4 @@
-use Rattle.std.proofs.Common.{◌≡◌, ◌+◌, ◌-◌, ◌<◌, ◌≤◌, length, get_or, refl, arith, rules}
+use Rattle.std.proofs.Common.{◌+◌, ◌-◌, ◌<◌, ◌≤◌, length, get_or, refl, arith, rules}
 use Rattle.std.proofs.lemmas.List.{get_or_read}
 use Rattle.tray.specs.Trays.{stroke}
 use Rattle.reducer.specs.Chains.{task}

@@ -1,7 +1,7 @@
-use Rattle.std.proofs.Common.{◌≡◌, ◌-◌, ◌<◌, ◌≤◌, length, sym, refl, ap, ◌∙◌, subst, arith, length-set, length-take, rules}
+use Rattle.std.proofs.Common.{◌≡◌, ◌-◌, ◌<◌, ◌≤◌, length, sym, refl, ◌∙◌, subst, arith, rules}
 use Rattle.std.proofs.lemmas.List.{drop-set-lt}
 use Rattle.tray.specs.Trays.{stroke}
-use Rattle.reducer.specs.Chains.{task, Task, Filled}
+use Rattle.reducer.specs.Chains.{task}
 use Rattle.reducer.specs.Scan.{offer, scan, entered}
 use Rattle.reducer.proofs.Optimal.{Sound, entry_few, next}
 use Rattle.reducer.proofs.Entries.{filled_more, filled_one}

@@ -1,5 +1,5 @@
-use Rattle.std.proofs.Common.{◌≡◌, ◌-◌, ◌<◌, ◌≤◌, [], ◌++◌, length, take, drop, sym, refl, ap, ◌∙◌, arith, length-take, rules}
-use Rattle.std.proofs.lemmas.List.{append-nil, drop_all, drop-set-lt, length-set}
+use Rattle.std.proofs.Common.{◌-◌, ◌<◌, ◌≤◌, ◌++◌, length, take, refl, ap, ◌∙◌, arith, length-take, rules}
+use Rattle.std.proofs.lemmas.List.{append-nil, drop_all, drop-set-lt}
 use Rattle.reducer.specs.Trail.{trail}
 use Rattle.reducer.proofs.Trails.{led_step, written_step}
 use Rattle.reducer.proofs.walk.walk.Goals as goal

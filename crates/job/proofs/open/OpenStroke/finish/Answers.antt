@@ -1,5 +1,4 @@
-use Rattle.std.proofs.Common.{◌≡◌, ◌-◌, List, map, length, take, sym, ap, ◌∙◌, arith}
-use Rattle.tray.specs.declared.point.Point.{Point}
+use Rattle.std.proofs.Common.{◌≡◌, ◌-◌, map, length, take, sym, ap, ◌∙◌, arith}
 use Rattle.tray.specs.History.{State}
 use Rattle.tray.specs.Trays.{stroke, writing}
 use Rattle.job.specs.Answer.{answer_of, if_drawn, point_of}

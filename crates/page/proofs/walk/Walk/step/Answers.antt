@@ -7,7 +7,7 @@ use Rattle.page.specs.declared.fault.StepFault.TheVariants.{Page}
 use Rattle.page.specs.declared.kinds.Step.{Step}
 use Rattle.page.specs.declared.walk.Walk.{Walk}
 use Rattle.page.specs.Faults.{told, told_at, OfPage}
-use Rattle.page.specs.Records.{Rec, size_of, front}
+use Rattle.page.specs.Records.{Rec, size_of}
 use Rattle.page.specs.Steps.{meant, stepped, stays}
 use Rattle.page.specs.Walks.{rec_of, seen}
 use Rattle.page.proofs.Framing.{Fronted, front_one}

@@ -1,12 +1,12 @@
 -- Header, stroke number, totals and kept numbers stand one after another.
-use Rattle.std.proofs.Common.{◌≡◌, ℕ, ◌+◌, ◌*◌, ◌<◌, ◌≤◌, true, false, List, ◌++◌, length, take, Err, sym, refl, ap, ◌∙◌, arith}
+use Rattle.std.proofs.Common.{◌≡◌, ℕ, ◌+◌, ◌*◌, ◌≤◌, List, ◌++◌, length, take, Err, sym, refl, ap, ◌∙◌, arith}
 use borrow.Author.Tests.{true-leb}
 use Rattle.std.specs.List.{flat_map}
-use Rattle.std.proofs.lemmas.Bool.{cond-true, cond-false, lt-ltb, le-ltb}
+use Rattle.std.proofs.lemmas.Bool.{cond-true, cond-false}
 use Rattle.std.proofs.lemmas.List.{take_all}
 use Rattle.page.specs.declared.kinds.Totals.{Totals}
 use Rattle.page.specs.Little.{le}
-use Rattle.page.specs.Answers.{kept_payload, kept_bytes, kept_fits}
+use Rattle.page.specs.Answers.{kept_payload, kept_bytes}
 use Rattle.page.specs.Writes.{written}
 use Rattle.page.specs.Appends.{outcome}
 use Rattle.page.proofs.Putting.{written_none, put_after, joined_length, put_more, appends_short, appends_fits}
