@@ -1,6 +1,6 @@
 -- Something that meets the premises of each law.
---   hook_dots      the points of the hook, as a page has them
---   hook_stroke    the hook on a page, with an order by the synchronous measure, the sum and this tolerance
+--   hook_dots     the points of the hook, as a page has them
+--   hook_stroke   the hook on a page, with an order by the synchronous measure, the sum and this tolerance
 --   KeepsPoints   the reply is an answer of so many points
 --   TwoReduces    a history with two answered reduces of the hook, the second with a wider tolerance, that is a run
 --   PremisesMet   a lawful stroke, a history that the pen permits, points that are all put, a stroke that fits a page, and those reduces

@@ -1,14 +1,14 @@
 -- Reduces of the hook, worked out.
---   cornered_hook      the hook with its point 4 a corner
---   start_of_hook      the first point of the hook alone
---   with_corners       the synchronous measure under Corners
---   with_span s        the synchronous measure under Span s
---   Shown              what a reduce says, and what its list holds then
---   reducing           this of a reduce by a kind of total, a measure and a tolerance, of a stroke; its tables and its list
---                      have one entry for each point, at first 0 or the start
---   keeping            these numbers of n points are kept, with their count and this total, and the list holds 0 after them
---   no_way             no lawful chain leads to the last of n points, and the list is as it was
---   WorkedCases       what reduces of the hook say and leave, and errors of chords
+--   cornered_hook    the hook with its point 4 a corner
+--   start_of_hook    the first point of the hook alone
+--   with_corners     the synchronous measure under Corners
+--   with_span s      the synchronous measure under Span s
+--   Shown            what a reduce says, and what its list holds then
+--   reducing         this of a reduce by a kind of total, a measure and a tolerance, of a stroke; its tables and its list
+--                    have one entry for each point, at first 0 or the start
+--   keeping          these numbers of n points are kept, with their count and this total, and the list holds 0 after them
+--   no_way           no lawful chain leads to the last of n points, and the list is as it was
+--   WorkedCases      what reduces of the hook say and leave, and errors of chords
 use Rattle.std.specs.Prelude.{◌≡◌, ℕ, ◌-◌, List, [], ◌∷◌, ◌++◌, length, take, replicate, Ok, Err, Result}
 use Rattle.refusal.specs.declared.Told.{Told}
 use Rattle.refusal.specs.declared.Layer.TheVariants.{Tray}

@@ -1,11 +1,11 @@
 -- The calls that a job makes on a tray for one stroke, and what is right to say of its answer.
---   put_of, puts     the put of a point, and of each point in turn
---   corner_call      a mark for a corner, by its number
---   corners_from     a mark for each corner in turn, where the first point has this number
---   calls_of         the points put, the pen lifted, the corners marked
+--   put_of, puts    the put of a point, and of each point in turn
+--   corner_call     a mark for a corner, by its number
+--   corners_from    a mark for each corner in turn, where the first point has this number
+--   calls_of        the points put, the pen lifted, the corners marked
 --   ReducedBy g s   the answer of the stroke s is what a reduce with the kind of total g told, made after these calls:
---                    it is right about the stroke, agrees with every reduce that is right, and the calls with it are a run
---   KeepsTheLaw    so it is with the kind of total that the order names, wherever no put is refused
+--                   it is right about the stroke, agrees with every reduce that is right, and the calls with it are a run
+--   KeepsTheLaw     so it is with the kind of total that the order names, wherever no put is refused
 use Rattle.std.specs.Prelude.{◌≡◌, ℕ, ◌+◌, List, [], ◌∷◌, ◌++◌, map, Ok, Result}
 use Rattle.tray.specs.declared.point.Point.{Point}
 use Rattle.tray.specs.declared.point.Mark.{Mark}

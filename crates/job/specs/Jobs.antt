@@ -1,11 +1,11 @@
 -- What a job makes of a page.
---   Outcome       how many strokes were answered, how the job ended, and the answer page then
---   answering     the strokes of a reading answered in turn, as long as their records fit the answer page
---   jobbed        the same for a whole page
---   Next          one stroke more: what is told of it, what is left to read, and where the answer page stands
---   next_of       the first stroke of a reading answered
---   More          how many bytes a call leaves
---   Side          a refusal is the page's where no stroke is left to read, and the answer page's where one is
+--   Outcome      how many strokes were answered, how the job ended, and the answer page then
+--   answering    the strokes of a reading answered in turn, as long as their records fit the answer page
+--   jobbed       the same for a whole page
+--   Next         one stroke more: what is told of it, what is left to read, and where the answer page stands
+--   next_of      the first stroke of a reading answered
+--   More         how many bytes a call leaves
+--   Side         a refusal is the page's where no stroke is left to read, and the answer page's where one is
 --   RunSide      the same at the end of a whole job, by the strokes that it did not answer
 use Rattle.std.specs.Prelude.{ℕ, ◌+◌, ◌<◌, cond, List, [], ◌∷◌, length, drop, Some, None, Ok, Err, Option, Result, nat_le}
 use Rattle.refusal.specs.declared.Told.{Told}

@@ -1,11 +1,11 @@
 -- What a job keeps, over every page and every answer page.
---   Ends                how a job ends, where so many bytes of the answer page's room are filled and these records are left
+--   Ends              how a job ends, where so many bytes of the answer page's room are filled and these records are left
 --   HoldsTheAnswers   the answer page begins with the records of the first strokes of the page, in order, and is else as it was;
---                       where a stroke is left, its record does not fit behind them, and the job is refused there
---   AnswersFit         the records that answer the strokes of a page are together no longer than the page
+--                     where a stroke is left, its record does not fit behind them, and the job is refused there
+--   AnswersFit        the records that answer the strokes of a page are together no longer than the page
 --   FitsThePage       so an answer page as long as the page has room for every answer
 --   OwnRecordsAlone   on a page with one stroke alone, the job appends the record that answers it on every page
---   Never8Or10       no stroke is refused for a short table or a short list
+--   Never8Or10        no stroke is refused for a short table or a short list
 use Rattle.std.specs.Prelude.{◌≡◌, ℕ, ◌+◌, ◌<◌, ◌≤◌, List, [], ◌∷◌, ◌++◌, map, length, ◌≢◌}
 use Rattle.std.specs.List.{flat_map}
 use Rattle.refusal.specs.declared.Told.{Told}

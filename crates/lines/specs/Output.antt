@@ -1,13 +1,13 @@
 -- Everything that the program prints, as bytes.
---   with_feed l     the line l with the line feed that ends it
---   stroke_text     what is printed of a stroke
---   ending_text     what is printed of the end of a reading: nothing, or the line of the page's refusal
---   read_text       what is printed of a reading: of each stroke in turn, and then of its end
---   page_text       what is printed of a page
---   longest         how many bytes a page may have
---   long_page       what is told of an input with more
---   program_text    what is printed of an input
---   LinesInTurn   strokes on a page print what each of them prints alone, in turn, and nothing else
+--   with_feed l    the line l with the line feed that ends it
+--   stroke_text    what is printed of a stroke
+--   ending_text    what is printed of the end of a reading: nothing, or the line of the page's refusal
+--   read_text      what is printed of a reading: of each stroke in turn, and then of its end
+--   page_text      what is printed of a page
+--   longest        how many bytes a page may have
+--   long_page      what is told of an input with more
+--   program_text   what is printed of an input
+--   LinesInTurn    strokes on a page print what each of them prints alone, in turn, and nothing else
 use Rattle.std.specs.Prelude.{◌≡◌, ℕ, ◌≤◌, cond, List, [], ◌∷◌, ◌++◌, length, nat_lt}
 use Rattle.std.specs.List.{flat_map, AllByRecursion as All}
 use Rattle.refusal.specs.declared.Told.{Told}

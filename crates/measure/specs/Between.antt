@@ -1,7 +1,7 @@
 -- What is gathered over the numbers k strictly between i and j, of which there may be none.
 --   gathered g z f a n   z, then by g the n terms f a, f (a + 1) and so on
 --   sum_between          the sum of f k
---   sum_z_between         the same over whole numbers with signs
+--   sum_z_between        the same over whole numbers with signs
 --   greatest_between     the greatest f k, or 0 where there is none
 --   some_between         whether f k holds for some k
 use Rattle.std.specs.Prelude.{ℕ, zero, suc, ◌+◌, ◌-◌, max, Bool, false, ◌||◌, ℤ, pos, ◌+ℤ◌}

@@ -4,8 +4,8 @@
 --   distance_error   the greatest over the points strictly between i and j
 --   distance         the bare measure with that error
 --   Reaches p q k e  e is not below the square of the distance from k to the segment, with nothing rounded
---   ReachesAll      so for each point strictly between i and j
---   LeastDistance   an answered error is the least whole number that reaches all
+--   ReachesAll       so for each point strictly between i and j
+--   LeastDistance    an answered error is the least whole number that reaches all
 use Rattle.std.specs.Prelude.{ℕ, ◌<◌, cond, List, pos, ◌*ℤ◌, ◌≤ℤ◌, ◌<ℤ◌, Option, int_le, unsigned_abs}
 use Rattle.tray.specs.declared.point.Point.{Point}
 use Rattle.tray.specs.Stroke.{numbered}

@@ -1,5 +1,5 @@
 -- The least of the numbers that serve.
---   Least Serves e           e serves, and no lesser number does
+--   Least Serves e          e serves, and no lesser number does
 --   AnswersLeast Serves o   where o is an answer, it is the least that serves
 use Rattle.std.specs.Prelude.{◌≡◌, ℕ, ◌≤◌, Some, Option}
 

@@ -6,7 +6,7 @@
 --   synchronous_error   that sum over the square of the time from i to j, rounded up
 --   synchronous         the bare measure with that error
 --   Enough ps i j e     the sum is at most e times that square
---   LeastSynchronous   an answered error is the least whole number that is enough
+--   LeastSynchronous    an answered error is the least whole number that is enough
 use Rattle.std.specs.Prelude.{ℕ, ◌+◌, ◌-◌, ◌*◌, ◌≤◌, List, ℤ, pos, ◌-ℤ◌, ◌*ℤ◌, Option}
 use Rattle.tray.specs.declared.point.Point.{Point}
 use Rattle.tray.specs.Stroke.{numbered}

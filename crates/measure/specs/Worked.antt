@@ -1,5 +1,5 @@
 -- Chords of two strokes, worked out.
---   hook, wave      the strokes
+--   hook, wave     the strokes
 --   WorkedChords   what the bare measures answer at some of their chords
 use Rattle.std.specs.Prelude.{◌≡◌, List, [], ◌∷◌, pos, negsuc, Some}
 use Rattle.tray.specs.declared.point.Point.{Point}

@@ -1,12 +1,12 @@
 -- What is appended to a page, and what is refused.
---   Outcome          an answer, with the bytes used and the page after it
---   outcome          the outcome of a call
---   refuses          nothing changes, and the bytes used are the place told
---   appends          the bytes follow those used, if the page has room for them
+--   Outcome           an answer, with the bytes used and the page after it
+--   outcome           the outcome of a call
+--   refuses           nothing changes, and the bytes used are the place told
+--   appends           the bytes follow those used, if the page has room for them
 --   appends_stroke    a stroke is appended whole, if its codes are known
 --   appends_kept      a record of kept points is appended; no page has room for one whose length its field cannot say
 --   appends_refused   a record of a refusal is appended
---   OneMore          where the bytes used before read as strokes, those used now read as these and one more
+--   OneMore           where the bytes used before read as strokes, those used now read as these and one more
 use Rattle.std.specs.Prelude.{◌≡◌, ℕ, ◌+◌, cond, List, [], ◌∷◌, ◌++◌, length, take, Ok, Err, Result, nat_le}
 use Rattle.refusal.specs.declared.Told.{Told}
 use Rattle.refusal.specs.Said.{said}

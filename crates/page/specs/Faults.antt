@@ -1,9 +1,9 @@
 -- What a page's refusal tells.
 --   number_of c   the number of the cause c
 --   told_at c p   what is told of the cause c at the place p
---   told f       what a refusal of a page tells
+--   told f        what a refusal of a page tells
 --   step_told f   what a refusal of a step tells: that of the page inside it
---   OfPage f     the page inside it is the page that is read
+--   OfPage f      the page inside it is the page that is read
 use Rattle.std.specs.Prelude.{ℕ}
 use Rattle.refusal.specs.declared.Told.{Told}
 use Rattle.refusal.specs.declared.Layer.TheVariants.{Page}

@@ -1,6 +1,6 @@
 -- What pages keep.
 --   WrittenReadsBack   strokes that were written read back as themselves
---   AcceptedStays bs    if the page bs is accepted, its strokes written again are its bytes
+--   AcceptedStays bs   if the page bs is accepted, its strokes written again are its bytes
 use Rattle.std.specs.Prelude.{◌≡◌, ℕ, List}
 use Rattle.std.specs.List.{AllByRecursion as All}
 use Rattle.page.specs.Strokes.{Stroke, page_bytes}

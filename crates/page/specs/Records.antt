@@ -1,14 +1,14 @@
 -- Records: their bytes, and the one at the front of the bytes that are left.
 --   record_bytes k p   a record of kind k with the payload p: length, kind, payload
---   Rec               a record that is read, by its kind, with its payload
+--   Rec                a record that is read, by its kind, with its payload
 --   kind_of            the number of its kind
---   payload           its payload
+--   payload            its payload
 --   size_of            how long a payload of its kind is
---   frame             its bytes
---   Front             why the record at the front is refused, or that record and the bytes after it
---   known k p         the record of kind k, if the kind is known
---   sized             the record, if there is one and the length is its kind's
---   front             the record at the front of some bytes
+--   frame              its bytes
+--   Front              why the record at the front is refused, or that record and the bytes after it
+--   known k p          the record of kind k, if the kind is known
+--   sized              the record, if there is one and the length is its kind's
+--   front              the record at the front of some bytes
 use Rattle.std.specs.Prelude.{ℕ, ◌+◌, ◌*◌, cond, List, [], ◌∷◌, ◌++◌, length, take, drop, Some, None, Option, ◌==◌, nat_lt}
 use Rattle.page.specs.declared.fault.PageCause.{PageCause}
 use Rattle.page.specs.declared.fault.PageCause.TheVariants.{CutRecord, StrangeKind, WrongLength}

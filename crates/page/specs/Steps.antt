@@ -1,26 +1,26 @@
 -- A page read record by record, from its front.
---   looked p bs        the record at the front of the bytes left, which begin at the place p; none at the end of the page; or why it is refused
---   meant p part r     what the record r at the place p says, between strokes or inside one
---   part_before         where a step is made
---   part_after          where it leaves the walk
---   Stepped            a step's answer, with the place, the part and the bytes left after it
---   stays              nothing moves
---   passes             a record that says something is passed, and a refused one is not
---   at_end              what the end of the page says
---   at_front            the step at what stands at the front
---   stepped            the step from a place, a part and the bytes left
---   State              between strokes, or inside one with its number and the points so far
---   state_of            the state of a part, where the number and the points are told
---   part_of             whether a state is inside a stroke
---   Ending             how a reading ends: at the end of the page, or by a refusal
---   Reading            the strokes that were read whole, and how it ended
---   pointed            the open stroke has one point more
---   closed             the open stroke, closed by its order, stands before what is read then
---   onward             what is read after a step's answer, where `go` reads the rest
---   read_on             the same, from where a step leaves the walk
---   read_by             what is read from a place and a state on, in at most so many steps
---   read_from           what is read from a place and a state on
---   reading            what is read of a page
+--   looked p bs       the record at the front of the bytes left, which begin at the place p; none at the end of the page; or why it is refused
+--   meant p part r    what the record r at the place p says, between strokes or inside one
+--   part_before       where a step is made
+--   part_after        where it leaves the walk
+--   Stepped           a step's answer, with the place, the part and the bytes left after it
+--   stays             nothing moves
+--   passes            a record that says something is passed, and a refused one is not
+--   at_end            what the end of the page says
+--   at_front          the step at what stands at the front
+--   stepped           the step from a place, a part and the bytes left
+--   State             between strokes, or inside one with its number and the points so far
+--   state_of          the state of a part, where the number and the points are told
+--   part_of           whether a state is inside a stroke
+--   Ending            how a reading ends: at the end of the page, or by a refusal
+--   Reading           the strokes that were read whole, and how it ended
+--   pointed           the open stroke has one point more
+--   closed            the open stroke, closed by its order, stands before what is read then
+--   onward            what is read after a step's answer, where `go` reads the rest
+--   read_on           the same, from where a step leaves the walk
+--   read_by           what is read from a place and a state on, in at most so many steps
+--   read_from         what is read from a place and a state on
+--   reading           what is read of a page
 use Rattle.std.specs.Prelude.{ℕ, zero, suc, ◌+◌, cond, List, [], ◌∷◌, ◌++◌, length, Some, None, Ok, Err, Option, Result}
 use Rattle.refusal.specs.declared.Told.{Told}
 use Rattle.page.specs.declared.fault.PageCause.TheVariants.{OutOfPlace, WrongCode}

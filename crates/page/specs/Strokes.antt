@@ -1,5 +1,5 @@
 -- Strokes and their bytes: start, points, order.
---   Stroke         a stroke's number, its points and its order
+--   Stroke          a stroke's number, its points and its order
 --   stroke_of       the stroke of a number, points and an order
 --   start_bytes     the start record of a stroke number
 --   mark_kind       the kind of a point's record
@@ -11,8 +11,8 @@
 --   page_bytes      strokes one after another
 --   point_of        the point of a payload
 --   order_of        the order of a payload
---   code           a code that is known: 1 to 3
---   codes          both codes of an order are known
+--   code            a code that is known: 1 to 3
+--   codes           both codes of an order are known
 use Rattle.std.specs.Prelude.{ℕ, Bool, ◌&&◌, List, ◌∷◌, ◌++◌, take, drop, nat_le}
 use Rattle.std.specs.Int.{w16}
 use Rattle.std.proofs.Common.{of_z, to_z}

@@ -1,12 +1,12 @@
 -- What the code's answers stand for, in the words of a reading.
 --   rec_of      a record of the code, with its payload as a list
---   shown      a record or none
+--   shown       a record or none
 --   front_of    the answer for the record at the front
 --   looked_of   a look's answer
---   InPlace    a record that is looked at tells its place, and its payload is the part of the page behind its length and its kind
---   seen       a step's answer, with where it leaves the walk
---   Falls      a step that says something of a stroke leaves fewer bytes
---   Parts      a step is made where it belongs, and leads where it should; a refused one moves nothing
+--   InPlace     a record that is looked at tells its place, and its payload is the part of the page behind its length and its kind
+--   seen        a step's answer, with where it leaves the walk
+--   Falls       a step that says something of a stroke leaves fewer bytes
+--   Parts       a step is made where it belongs, and leads where it should; a refused one moves nothing
 use Rattle.std.specs.Prelude.{◌≡◌, ℕ, ◌<◌, List, take, drop, Some, None, Ok, Err, Option, Result}
 use Rattle.std.specs.Borrow.{Bor}
 use Rattle.refusal.specs.declared.Told.{Told}

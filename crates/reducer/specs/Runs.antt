@@ -1,10 +1,10 @@
 -- Runs: histories of a tray from new on, with what each reduce told, that keep the law.
---   Met          a reduce of a history, with the stroke that the calls before it made
---   EachRight   each reduce of a history is right about its stroke
---   TwoAgree    of two reduces, one in each history, over one stroke with one measure, the one with at least the other's
---                tolerance, whatever its kind of total, has each lawful chain of the other and keeps no more points
---   Run          the history leaves this pen and this stroke, and keeps the law: alone, and beside each other history that is right
---   GoesOn      one call more makes a longer run of each run
+--   Met        a reduce of a history, with the stroke that the calls before it made
+--   EachRight  each reduce of a history is right about its stroke
+--   TwoAgree   of two reduces, one in each history, over one stroke with one measure, the one with at least the other's
+--              tolerance, whatever its kind of total, has each lawful chain of the other and keeps no more points
+--   Run        the history leaves this pen and this stroke, and keeps the law: alone, and beside each other history that is right
+--   GoesOn     one call more makes a longer run of each run
 --   StepsGoOn  so does each call of a tray that is no reduce, by the machine's step
 use Rattle.std.specs.Prelude.{◌≡◌, ℕ, ◌≤◌, List, [], ◌∷◌, ◌++◌}
 use Rattle.tray.specs.declared.point.Point.{Point}

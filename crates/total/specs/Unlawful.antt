@@ -1,5 +1,5 @@
 -- A pair of the greatest error and the sum, compared by the greatest error first.
---   worst_first               its order
+--   worst_first            its order
 --   WorstFirstIsUnlawful   no kind with this order keeps the laws: (1, 10) precedes (2, 2), and joined with (3, 3) they change places
 use Rattle.std.specs.Prelude.{Bool, ◌&&◌, ◌||◌, ◌==◌, nat_le, nat_lt}
 use Rattle.total.specs.declared.sum_then_worst.SumThenWorst.{SumThenWorst}

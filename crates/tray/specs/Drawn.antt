@@ -1,8 +1,8 @@
 -- What a history of calls draws, from a new tray on, in the words of one who uses a tray.
 --   Drawn h pen ps   the history h leaves this pen and these points
 --   Permits          which calls each pen permits
---   DrawsExactly    the machine draws what this relation says, and nothing else
---   StaysLawful     after every history the points are a stroke within the four limits
+--   DrawsExactly     the machine draws what this relation says, and nothing else
+--   StaysLawful      after every history the points are a stroke within the four limits
 --   TakesTheLawful   a put is answered exactly where its point leaves the stroke within the limits
 use Rattle.std.specs.Prelude.{◌≡◌, ℕ, ◌+◌, ◌<◌, true, List, [], ◌∷◌, ◌++◌, length, ℤ, is_ok}
 use Rattle.tray.specs.declared.point.Point.{Point}

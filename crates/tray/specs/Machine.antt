@@ -1,8 +1,8 @@
 -- One call on a list of points: what it says, and the points after it.
---   off_sheet, stopped, late, full   the causes that refuse a put, each by itself
+--   off_sheet, stopped, late, full          the causes that refuse a put, each by itself
 --   put_says, take_back_says, mark_says     the answer, or what the refusal tells: the smallest number wins
 --   put_after, take_back_after, mark_after  the points then; a refused call leaves them as they were
---   plain, marked                    a new point, and a point with another mark
+--   plain, marked                           a new point, and a point with another mark
 use Rattle.std.specs.Prelude.{ℕ, ◌+◌, ◌-◌, Bool, cond, ◌&&◌, ◌||◌, List, [], ◌∷◌, ◌++◌, length, take, ℤ, pos, negsuc, Ok, Err, Result, ◌==◌, int_lt, nat_le, nat_lt, slice_set}
 use Rattle.refusal.specs.declared.Told.{Told}
 use Rattle.refusal.specs.declared.Layer.TheVariants.{Tray}
