@@ -1,6 +1,6 @@
 -- The answers of a page are no longer than the page.
 use Rattle.std.proofs.Common.{◌≡◌, ℕ, ◌+◌, ◌≤◌, List, [], ◌∷◌, ◌++◌, map, length, sym, ap, ◌∙◌, append-nil, arith, length-append, length-take-le}
-use Rattle.std.specs.List.{flat_map, AllByRecursion as All}
+use Rattle.std.specs.List.{flat_map, AllByRecursion}
 use Rattle.page.specs.Strokes.{Stroke, stroke_bytes, page_bytes}
 use Rattle.page.specs.Steps.{Ending, accepted, refused_by, reading}
 use Rattle.page.specs.Fits.{Byte}
@@ -27,7 +27,7 @@ strokes_within bs ss accepted v = omega (arith, ap length v.0)
 strokes_within bs ss (refused_by t) v =
     omega (arith, ap length v.before, length-append (page_bytes ss) (open_bytes v.state), length-take-le v.place bs v.within)
 
-pub answers_fit : (bs : List ℕ) → All Byte bs → AnswersFit bs
+pub answers_fit : (bs : List ℕ) → AllByRecursion Byte bs → AnswersFit bs
 answers_fit bs h =
     omega (
       arith,
@@ -42,7 +42,7 @@ none_left f all first [] room own e split h w = (w, ap length (sym (append-nil f
 none_left f all first (s ∷ rest) room own e split h w =
     absurd (omega (arith, joined_part f first s rest, ap (λ ss. length (flat_map f ss)) split, w.1))
 
-pub fits_the_page : (bs out : List ℕ) → All Byte bs → FitsThePage bs out
+pub fits_the_page : (bs out : List ℕ) → AllByRecursion Byte bs → FitsThePage bs out
 fits_the_page bs out h l =
     let q = holds_the_answers bs out in
     let fit = answers_fit bs h in

@@ -9,7 +9,7 @@
 --   program_text   what is printed of an input
 --   LinesInTurn    strokes on a page print what each of them prints alone, in turn, and nothing else
 use Rattle.std.specs.Prelude.{◌≡◌, ℕ, ◌≤◌, cond, List, [], ◌∷◌, ◌++◌, length, nat_lt}
-use Rattle.std.specs.List.{flat_map, AllByRecursion as All}
+use Rattle.std.specs.List.{flat_map, AllByRecursion}
 use Rattle.refusal.specs.declared.Told.{Told}
 use Rattle.refusal.specs.declared.Layer.TheVariants.{Program}
 use Rattle.refusal.specs.Said.{at_layer}
@@ -45,4 +45,4 @@ abbrev pub program_text : List ℕ → List ℕ
 program_text bs = cond (nat_lt longest (length bs)) (with_feed (refusal_text long_page)) (page_text bs)
 
 abbrev pub LinesInTurn : Type 0
-LinesInTurn = (ss : List Stroke) → All StrokeFits ss → length (page_bytes ss) ≤ longest → program_text (page_bytes ss) ≡ flat_map stroke_text ss
+LinesInTurn = (ss : List Stroke) → AllByRecursion StrokeFits ss → length (page_bytes ss) ≤ longest → program_text (page_bytes ss) ≡ flat_map stroke_text ss

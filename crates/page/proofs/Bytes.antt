@@ -1,6 +1,6 @@
 -- Laws of little-endian bytes.
 use Rattle.std.proofs.Common.{◌≡◌, ℕ, zero, suc, ◌+◌, ◌*◌, ◌/◌, ◌%◌, ◌^◌, ◌<◌, List, [], ◌∷◌, length, refl, div-lt_iff_lt-mul, pow-suc, arith}
-use Rattle.std.specs.List.{AllByRecursion as All}
+use Rattle.std.specs.List.{AllByRecursion}
 use Rattle.page.specs.Little.{le, unle}
 use Rattle.page.specs.Fits.{Byte}
 
@@ -12,7 +12,7 @@ unle_le (suc k) n h =
     let ih = unle_le k (n / 256) below in
     omega arith
 
-pub le_unle : (bs : List ℕ) → All Byte bs → le (length bs) (unle bs) ≡ bs
+pub le_unle : (bs : List ℕ) → AllByRecursion Byte bs → le (length bs) (unle bs) ≡ bs
 le_unle [] h = refl
 le_unle (b ∷ bs) h =
     let low : (b + unle bs * 256) % 256 ≡ b = omega (arith, h.0) in
@@ -20,10 +20,10 @@ le_unle (b ∷ bs) h =
     let ih = le_unle bs h.1 in
     rw (low, high, ih)
 
-pub le_unle_at : (k : ℕ) (bs : List ℕ) → length bs ≡ k → All Byte bs → le k (unle bs) ≡ bs
+pub le_unle_at : (k : ℕ) (bs : List ℕ) → length bs ≡ k → AllByRecursion Byte bs → le k (unle bs) ≡ bs
 le_unle_at k bs e h = rw (← e) (le_unle bs h)
 
-pub unle_lt : (bs : List ℕ) → All Byte bs → unle bs < 256 ^ length bs
+pub unle_lt : (bs : List ℕ) → AllByRecursion Byte bs → unle bs < 256 ^ length bs
 unle_lt [] h = omega arith
 unle_lt (b ∷ bs) h =
     let ih = unle_lt bs h.1 in

@@ -1,6 +1,6 @@
 -- The record at the front of some bytes, where it is read.
 use Rattle.std.proofs.Common.{◌≡◌, ℕ, ◌+◌, ◌*◌, ◌/◌, ◌%◌, ◌<◌, false, cond, eqb, ltb, List, [], ◌∷◌, ◌++◌, length, take, drop, Some, None, Option, sym, refl, ap, ◌∙◌, subst, arith, length-append, length-drop, take-append-drop, length-take-le, eq-eqb}
-use Rattle.std.specs.List.{AllByRecursion as All}
+use Rattle.std.specs.List.{AllByRecursion}
 use Rattle.std.proofs.lemmas.Bool.{eqb-true, ltb-false, le-ltb, cond_both, cond-true, cond-false}
 use Rattle.std.proofs.lemmas.List.{take_at, drop_at}
 use Rattle.std.proofs.ByRecursion.{All-take, All-drop}
@@ -98,7 +98,7 @@ header n a b p q e =
     rw (low, high)
 
 -- the bytes are those of the record, and then the others
-pub front_split : (bs : List ℕ) (r : Rec) (left : List ℕ) → All Byte bs → front bs ≡ one r left → bs ≡ frame r ++ left
+pub front_split : (bs : List ℕ) (r : Rec) (left : List ℕ) → AllByRecursion Byte bs → front bs ≡ one r left → bs ≡ frame r ++ left
 front_split [] r left h e = never e
 front_split (a ∷ []) r left h e = never e
 front_split (a ∷ b ∷ []) r left h e = never e
@@ -110,16 +110,16 @@ front_split (l0 ∷ l1 ∷ k0 ∷ k1 ∷ rest) r left h e =
     ap (λ l. l0 ∷ l1 ∷ k0 ∷ k1 ∷ l) f.whole ∙ sym (ap (λ l. (l ++ (le 2 (kind_of r) ++ payload r)) ++ left) h1 ∙ ap (λ l. l0 ∷ l1 ∷ ((l ++ payload r) ++ left)) h2)
 
 pub record Sound (r : Rec) (left : List ℕ) : Type 0 where
-  pub bytes : All Byte (payload r)
-  pub rest : All Byte left
+  pub bytes : AllByRecursion Byte (payload r)
+  pub rest : AllByRecursion Byte left
 
-pub front_sound : (bs : List ℕ) (r : Rec) (left : List ℕ) → All Byte bs → front bs ≡ one r left → Sound r left
+pub front_sound : (bs : List ℕ) (r : Rec) (left : List ℕ) → AllByRecursion Byte bs → front bs ≡ one r left → Sound r left
 front_sound bs r left h e =
     let f = front_one bs r left e in
-    let tail : All Byte (payload r ++ left) = subst (All Byte) f.whole (All-drop Byte 4 bs h) in
+    let tail : AllByRecursion Byte (payload r ++ left) = subst (AllByRecursion Byte) f.whole (All-drop Byte 4 bs h) in
     record {
-      bytes = subst (All Byte) (take_at (payload r) left (length (payload r)) refl) (All-take Byte (length (payload r)) (payload r ++ left) tail);
-      rest = subst (All Byte) (drop_at (payload r) left (length (payload r)) refl) (All-drop Byte (length (payload r)) (payload r ++ left) tail);
+      bytes = subst (AllByRecursion Byte) (take_at (payload r) left (length (payload r)) refl) (All-take Byte (length (payload r)) (payload r ++ left) tail);
+      rest = subst (AllByRecursion Byte) (drop_at (payload r) left (length (payload r)) refl) (All-drop Byte (length (payload r)) (payload r ++ left) tail);
     }
 
 -- reading what `frame` wrote

@@ -1,6 +1,6 @@
 -- What is read of a page is right.
 use Rattle.std.proofs.Common.{◌≡◌, ℕ, zero, suc, ◌+◌, ◌^◌, ◌<◌, ◌≤◌, Bool, true, false, cond, List, [], ◌∷◌, ◌++◌, length, Ok, Err, Result, sym, refl, ap, ◌∙◌, subst, inl, append_assoc, append-nil, arith, length-append}
-use Rattle.std.specs.List.{flat_map, AllByRecursion as All}
+use Rattle.std.specs.List.{flat_map, AllByRecursion}
 use Rattle.std.proofs.lemmas.List.{take_at, drop_at, flat_map_more}
 use Rattle.std.proofs.ByRecursion.{All-push}
 use Rattle.refusal.specs.declared.Told.{Told}
@@ -35,7 +35,7 @@ Right bs r = Verdict bs r.strokes r.ending
 -- what stands before a place: whole strokes and an open one
 record Before (pre : List ℕ) (ss : List Stroke) (s : State) : Type 0 where
   pub bytes : pre ≡ page_bytes ss ++ open_bytes s
-  pub strokes : All StrokeFits ss
+  pub strokes : AllByRecursion StrokeFits ss
   pub opened : OpenFits s
 
 -- a page is refused at the place behind `pre`
@@ -58,7 +58,7 @@ stop pre left ss s c t b e h =
 
 at_end : (pre : List ℕ) (ss : List Stroke) (s : State) → Before pre ss s → Right (pre ++ []) (behind ss (read_on s read_from (stepped (length pre) (part_of s) [])))
 at_end pre ss outside b =
-    (append-nil pre ∙ b.bytes ∙ append-nil (page_bytes ss) ∙ ap page_bytes (sym (append-nil ss)), subst (All StrokeFits) (sym (append-nil ss)) b.strokes)
+    (append-nil pre ∙ b.bytes ∙ append-nil (page_bytes ss) ∙ ap page_bytes (sym (append-nil ss)), subst (AllByRecursion StrokeFits) (sym (append-nil ss)) b.strokes)
 at_end pre ss (inside n ps) b =
     stop pre [] ss (inside n ps) OutOfPlace (told_at OutOfPlace (length pre)) b refl
     (record { holds = inl refl; first = firstly OutOfPlace Inside [] (omega arith) (λ _ h. omega (arith, h.0)) (λ _ h. omega (arith, h.0)) (λ _ h. omega (arith, h.0)) (λ l h. omega arith) })
@@ -67,9 +67,9 @@ at_end pre ss (inside n ps) b =
 
 -- what is still to be shown, of fewer bytes
 abbrev Still : ℕ → Type 0
-Still turns = (pre : List ℕ) (ss : List Stroke) (s : State) (left : List ℕ) → length left < turns → Before pre ss s → All Byte left → Right (pre ++ left) (behind ss (read_from (length pre) s left))
+Still turns = (pre : List ℕ) (ss : List Stroke) (s : State) (left : List ℕ) → length left < turns → Before pre ss s → AllByRecursion Byte left → Right (pre ++ left) (behind ss (read_from (length pre) s left))
 
-module _ (turns : ℕ) (still : Still turns) (pre bs : List ℕ) (few : length bs ≤ turns) (h : All Byte bs) (r : Rec) (left : List ℕ) (e : front bs ≡ one r left) where
+module _ (turns : ℕ) (still : Still turns) (pre bs : List ℕ) (few : length bs ≤ turns) (h : AllByRecursion Byte bs) (r : Rec) (left : List ℕ) (e : front bs ≡ one r left) where
   onwards : (ss : List Stroke) (s : State) → Before (pre ++ frame r) ss s → Right (pre ++ bs) (behind ss (read_from (length pre + (4 + size_of r)) s left))
   onwards ss s b =
       let f = front_one bs r left e in
@@ -97,7 +97,7 @@ new_stroke pre ss p b f e =
       opened = (f, tt);
     }
 
-close_stroke : (pre : List ℕ) (ss : List Stroke) (n : ℕ) (ps : List Point) (p : List ℕ) → Before pre ss (inside n ps) → length p ≡ 14 → All Byte p → codes (order_of p) ≡ true → Before (pre ++ frame (order_rec p)) (ss ++ stroke_of n ps (order_of p) ∷ []) outside
+close_stroke : (pre : List ℕ) (ss : List Stroke) (n : ℕ) (ps : List Point) (p : List ℕ) → Before pre ss (inside n ps) → length p ≡ 14 → AllByRecursion Byte p → codes (order_of p) ≡ true → Before (pre ++ frame (order_rec p)) (ss ++ stroke_of n ps (order_of p) ∷ []) outside
 close_stroke pre ss n ps p b size h ok =
     let o = order p size h in
     let s : Stroke = stroke_of n ps (order_of p) in
@@ -113,7 +113,7 @@ close_stroke pre ss n ps p b size h ok =
       opened = tt;
     }
 
-module _ (turns : ℕ) (still : Still turns) (pre bs : List ℕ) (few : length bs ≤ turns) (h : All Byte bs) (ss : List Stroke) where
+module _ (turns : ℕ) (still : Still turns) (pre bs : List ℕ) (few : length bs ≤ turns) (h : AllByRecursion Byte bs) (ss : List Stroke) where
   -- what is right after the record r, which says something or is refused
   abbrev After : State → Rec → List ℕ → Result Step Told → Type 0
   After s r left a = Right (pre ++ bs) (behind ss (read_on s read_from (passes (length pre) (part_of s) bs r left a)))
@@ -164,8 +164,8 @@ right (suc turns) pre ss s (x ∷ xs) few b h = subst (λ r. Right (pre ++ x ∷
     go still (bad c) e = stop pre (x ∷ xs) ss s c (told_at c (length pre)) b refl (front_bad (part_of s) x xs c e)
     go still (one r left) e = one_more turns still pre (x ∷ xs) (omega arith) h ss s r left e b
 
-pub judged : (bs : List ℕ) → All Byte bs → Judged bs
+pub judged : (bs : List ℕ) → AllByRecursion Byte bs → Judged bs
 judged bs h = right (suc (length bs)) [] [] outside bs (omega arith) (record { bytes = refl; strokes = tt; opened = tt }) h
 
-pub accepted_stays : (bs : List ℕ) → All Byte bs → AcceptedStays bs
+pub accepted_stays : (bs : List ℕ) → AllByRecursion Byte bs → AcceptedStays bs
 accepted_stays bs h e = sym (subst (Verdict bs (reading bs).strokes) e (judged bs h)).0

@@ -1,7 +1,7 @@
 -- Payloads that are read and written again.
 use Rattle.std.proofs.Common.{◌≡◌, ℕ, ◌+◌, ◌*◌, ◌^◌, ◌<◌, List, [], ◌∷◌, ◌++◌, length, take, drop, sym, ap, ◌∙◌, subst, arith, length-drop, take-append-drop, length-take-le, w16, SFits, to_z, of_z}
 use mir.ValLaws.{to_z-Fits}
-use Rattle.std.specs.List.{AllByRecursion as All}
+use Rattle.std.specs.List.{AllByRecursion}
 use Rattle.std.proofs.lemmas.List.{drop-drop}
 use Rattle.std.proofs.ByRecursion.{All-take, All-drop}
 use Rattle.std.proofs.lemmas.Int.{of_z-to_z}
@@ -11,7 +11,7 @@ use Rattle.page.specs.Strokes.{point_payload, order_payload, point_of, order_of}
 use Rattle.page.specs.Fits.{Byte, PointFits}
 use Rattle.page.proofs.Bytes.{le_unle_at, unle_lt}
 
-pub small : (k : ℕ) (bs : List ℕ) → length bs ≡ k → All Byte bs → unle bs < 256 ^ k
+pub small : (k : ℕ) (bs : List ℕ) → length bs ≡ k → AllByRecursion Byte bs → unle bs < 256 ^ k
 small k bs e h = subst (λ n. unle bs < 256 ^ n) e (unle_lt bs h)
 
 -- a coordinate in two bytes
@@ -19,7 +19,7 @@ record Coord (bs : List ℕ) : Type 0 where
   pub again : le 2 (of_z w16 (to_z w16 (unle bs))) ≡ bs
   pub fits : SFits w16 (to_z w16 (unle bs))
 
-coord : (bs : List ℕ) → length bs ≡ 2 → All Byte bs → Coord bs
+coord : (bs : List ℕ) → length bs ≡ 2 → AllByRecursion Byte bs → Coord bs
 coord bs e h =
     let s : unle bs < 2 ^ 16 = small 2 bs e h in
     record { again = ap (le 2) (of_z-to_z w16 (unle bs) s) ∙ le_unle_at 2 bs e h; fits = to_z-Fits w16 (unle bs) (record { fits = s }) }
@@ -28,7 +28,7 @@ pub record Pointed (m : Mark) (p : List ℕ) : Type 0 where
   pub again : point_payload (point_of m p) ≡ p
   pub fits : PointFits (point_of m p)
 
-pub point : (m : Mark) (p : List ℕ) → length p ≡ 8 → All Byte p → Pointed m p
+pub point : (m : Mark) (p : List ℕ) → length p ≡ 8 → AllByRecursion Byte p → Pointed m p
 point m p e h =
     let rest : length (drop 2 p) ≡ 6 = length-drop 2 p ∙ omega arith in
     let last : length (drop 4 p) ≡ 4 = length-drop 4 p ∙ omega arith in
@@ -50,7 +50,7 @@ pub record Ordered (p : List ℕ) : Type 0 where
   pub span : (order_of p).span < 2 ^ 32
   pub tolerance : (order_of p).tolerance < 2 ^ 64
 
-pub order : (p : List ℕ) → length p ≡ 14 → All Byte p → Ordered p
+pub order : (p : List ℕ) → length p ≡ 14 → AllByRecursion Byte p → Ordered p
 order p e h =
     let one : length (drop 1 p) ≡ 13 = length-drop 1 p ∙ omega arith in
     let two : length (drop 2 p) ≡ 12 = length-drop 2 p ∙ omega arith in

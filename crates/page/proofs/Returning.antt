@@ -1,7 +1,7 @@
 -- Strokes that were written read back as themselves.
 use Rattle.std.proofs.Common.{◌≡◌, ℕ, suc, ◌+◌, ◌*◌, ◌^◌, ◌<◌, true, List, [], ◌∷◌, ◌++◌, length, ℤ, Ok, sym, refl, ap, ◌∙◌, append_assoc, append-nil, arith, length-append, w16, SFits, to_z, of_z}
 use mir.ValLaws.{of_z_fits}
-use Rattle.std.specs.List.{flat_map, AllByRecursion as All}
+use Rattle.std.specs.List.{flat_map, AllByRecursion}
 use Rattle.std.proofs.lemmas.Bool.{cond-true}
 use Rattle.std.proofs.lemmas.Int.{to_z-of_z}
 use Rattle.tray.specs.declared.point.Mark.{Mark}
@@ -46,7 +46,7 @@ read_point place n ps p rest f = go p.mark refl
     go Plain e = read_record place (inside n ps) (plain_rec (point_payload p)) rest (Next (point_of Plain (point_payload p))) refl refl ∙ ap (λ q. read_from (place + 12) (inside n (ps ++ q ∷ [])) rest) (point_back p Plain f e)
     go Corner e = read_record place (inside n ps) (corner_rec (point_payload p)) rest (Next (point_of Corner (point_payload p))) refl refl ∙ ap (λ q. read_from (place + 12) (inside n (ps ++ q ∷ [])) rest) (point_back p Corner f e)
 
-read_points : (place n : ℕ) (acc ps : List Point) (rest : List ℕ) → All PointFits ps → read_from place (inside n acc) (flat_map point_bytes ps ++ rest) ≡ read_from (place + 12 * length ps) (inside n (acc ++ ps)) rest
+read_points : (place n : ℕ) (acc ps : List Point) (rest : List ℕ) → AllByRecursion PointFits ps → read_from place (inside n acc) (flat_map point_bytes ps ++ rest) ≡ read_from (place + 12 * length ps) (inside n (acc ++ ps)) rest
 read_points place n acc [] rest h =
     let z : place ≡ place + 0 = omega arith in
     λ i. read_from (z i) (inside n (sym (append-nil acc) i)) rest
@@ -94,7 +94,7 @@ read_stroke place s rest f =
     ∙ read_order (place + length begun) s.number s.points s.order rest f.codes f.span f.tolerance
     ∙ ap (λ m. behind (s ∷ []) (read_from m outside rest)) at
 
-pub read_strokes : (place : ℕ) (ss : List Stroke) (rest : List ℕ) → All StrokeFits ss → read_from place outside (page_bytes ss ++ rest) ≡ behind ss (read_from (place + length (page_bytes ss)) outside rest)
+pub read_strokes : (place : ℕ) (ss : List Stroke) (rest : List ℕ) → AllByRecursion StrokeFits ss → read_from place outside (page_bytes ss ++ rest) ≡ behind ss (read_from (place + length (page_bytes ss)) outside rest)
 read_strokes place [] rest h = let z : place ≡ place + 0 = omega arith in ap (λ m. read_from m outside rest) z
 read_strokes place (s ∷ ss) rest h =
     let long = length-append (stroke_bytes s) (page_bytes ss) in
@@ -107,7 +107,7 @@ read_strokes place (s ∷ ss) rest h =
 pub read_nothing : (place : ℕ) → read_from place outside [] ≡ record { strokes = []; ending = accepted }
 read_nothing place = read_step place outside []
 
-pub written_reads_back : (ss : List Stroke) → All StrokeFits ss → read_from 0 outside (page_bytes ss) ≡ record { strokes = ss; ending = accepted }
+pub written_reads_back : (ss : List Stroke) → AllByRecursion StrokeFits ss → read_from 0 outside (page_bytes ss) ≡ record { strokes = ss; ending = accepted }
 written_reads_back ss h =
     ap (read_from 0 outside) (sym (append-nil (page_bytes ss)))
     ∙ read_strokes 0 ss [] h

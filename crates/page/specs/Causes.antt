@@ -10,7 +10,7 @@
 --   Judged bs           the page bs is read as is right
 --   Alone bs            nothing else is right to say of it
 use Rattle.std.specs.Prelude.{◌≡◌, ℕ, ◌+◌, ◌^◌, ◌<◌, ◌≤◌, ◌⊎◌, List, [], ◌++◌, length, take, drop, ◌≢◌, slice_index}
-use Rattle.std.specs.List.{flat_map, AllByRecursion as All}
+use Rattle.std.specs.List.{flat_map, AllByRecursion}
 use Rattle.refusal.specs.declared.Told.{Told}
 use Rattle.page.specs.declared.fault.PageCause.{PageCause}
 use Rattle.page.specs.declared.fault.PageCause.TheVariants.{CutRecord, StrangeKind, WrongLength, OutOfPlace, WrongCode, ShortPage}
@@ -60,7 +60,7 @@ open_bytes (inside n ps) = start_bytes n ++ flat_map point_bytes ps
 
 abbrev pub OpenFits : State → Type 0
 OpenFits outside = Unit {0}
-OpenFits (inside n ps) = (n < 2 ^ 32) × All PointFits ps
+OpenFits (inside n ps) = (n < 2 ^ 32) × AllByRecursion PointFits ps
 
 pub record RefusedFirst (bs : List ℕ) (ss : List Stroke) (t : Told) : Type 0 where
   pub cause : PageCause
@@ -69,12 +69,12 @@ pub record RefusedFirst (bs : List ℕ) (ss : List Stroke) (t : Told) : Type 0 w
   pub told : t ≡ told_at cause place
   pub within : place ≤ length bs
   pub before : take place bs ≡ page_bytes ss ++ open_bytes state
-  pub strokes_fit : All StrokeFits ss
+  pub strokes_fit : AllByRecursion StrokeFits ss
   pub open_fits : OpenFits state
   pub stops : Stops cause (part_of state) (drop place bs)
 
 abbrev pub Verdict : List ℕ → List Stroke → Ending → Type 0
-Verdict bs ss accepted = (bs ≡ page_bytes ss) × All StrokeFits ss
+Verdict bs ss accepted = (bs ≡ page_bytes ss) × AllByRecursion StrokeFits ss
 Verdict bs ss (refused_by t) = RefusedFirst bs ss t
 
 abbrev pub Judged : List ℕ → Type 0

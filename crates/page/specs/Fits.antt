@@ -4,7 +4,7 @@
 --   StrokeFits   every number of the stroke fits its field, and both codes are known
 use Rattle.std.specs.Prelude.{◌≡◌, ℕ, ◌^◌, ◌<◌, true, FitsSigned}
 use Rattle.std.specs.Int.{w16}
-use Rattle.std.specs.List.{AllByRecursion as All}
+use Rattle.std.specs.List.{AllByRecursion}
 use Rattle.page.specs.declared.kinds.Point.{Point}
 use Rattle.page.specs.Strokes.{Stroke, codes}
 
@@ -18,7 +18,7 @@ pub record PointFits (p : Point) : Type 0 where
 
 pub record StrokeFits (s : Stroke) : Type 0 where
   pub number : s.number < 2 ^ 32
-  pub points : All PointFits s.points
+  pub points : AllByRecursion PointFits s.points
   pub span : s.order.span < 2 ^ 32
   pub tolerance : s.order.tolerance < 2 ^ 64
   pub codes : codes s.order ≡ true

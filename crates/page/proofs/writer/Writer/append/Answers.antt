@@ -1,7 +1,7 @@
 -- Start, points and order stand one after another.
 use Rattle.std.proofs.Common.{◌≡◌, ℕ, ◌+◌, ◌*◌, ◌≤◌, List, ◌++◌, length, take, pos, Err, sym, refl, ap, ◌∙◌, subst, append_assoc, arith, length-append, rules}
 use borrow.Author.Tests.{true-leb}
-use Rattle.std.specs.List.{flat_map, AllByRecursion as All}
+use Rattle.std.specs.List.{flat_map, AllByRecursion}
 use Rattle.std.proofs.lemmas.Bool.{cond-true}
 use Rattle.std.proofs.lemmas.List.{take_all}
 use Rattle.std.proofs.ByRecursion.{All-more, All-from_get_or}
@@ -62,7 +62,7 @@ returns c =
     let bytes : c.put-2.new.page ≡ written used page (stroke_bytes s) = put_after used at page c.loop-p.page c.put-2.new.page (a ++ b) (order_bytes c.args.order) c.order_record.result points c.put-2.ensures c.order_record.ensures (omega arith) (omega arith) ∙ ap (written used page) (append_assoc a b (order_bytes c.args.order)) in
     let fits : StrokeFits s = record {
       number = c.ranges.number.fits;
-      points = subst (All PointFits) all c.loop-p.invariant.2;
+      points = subst (AllByRecursion PointFits) all c.loop-p.invariant.2;
       span = search rules;
       tolerance = search rules;
       codes = sym c.if-not-has_codes.ensures;

@@ -1,6 +1,6 @@
 -- So many points are put, and those that were put fit their fields.
 use Rattle.std.proofs.Common.{◌≡◌, ◌+◌, ◌*◌, take}
-use Rattle.std.specs.List.{flat_map, AllByRecursion as All}
+use Rattle.std.specs.List.{flat_map, AllByRecursion}
 use Rattle.page.specs.Strokes.{point_bytes}
 use Rattle.page.specs.Fits.{PointFits}
 use Rattle.page.specs.Writes.{written}
@@ -10,4 +10,4 @@ abbrev pub invariant-loop-p : goal.invariant-loop-p
 invariant-loop-p l =
     (l.at ≡ l.used + 8 + 12 * l.p-index)
     × (l.page ≡ written (l.used + 8) l.initial.page (flat_map point_bytes (take l.p-index l.points)))
-    × All PointFits (take l.p-index l.points)
+    × AllByRecursion PointFits (take l.p-index l.points)
