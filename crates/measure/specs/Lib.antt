@@ -1,4 +1,4 @@
--- The definitions that the contracts cite, each file after those it uses.
+-- The definitions that the contracts cite, each file after those it uses; then, from Points on, the lemmas by which the measures show their laws.
 pub mod Chords
 pub mod Between
 pub mod Steps
@@ -9,11 +9,11 @@ pub mod Sides
 pub mod Area
 pub mod Layers
 pub mod Worked
-pub mod Swept
-pub mod Ints
-pub mod Runs
 pub mod Points
 pub mod Answered
-pub mod Offs
+pub mod Ints
 pub mod Rounded
+pub mod Runs
+pub mod Swept
 pub mod Lags
+pub mod Offs

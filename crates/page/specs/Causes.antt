@@ -1,14 +1,14 @@
 -- When a record is refused, cause by cause, and what is right to say of a page.
---   length_at, kind_at    the length and the kind that stand at the front of the bytes left
---   Long k n            payloads of kind k have n bytes
---   Code n              a known code
---   Holds c part bs     the cause c holds at the front of the bytes left, between strokes or inside one
---   Stops c part bs     the cause c holds there, and none with a smaller number
---   open_bytes, OpenFits the records of the open stroke so far, and that they fit
---   RefusedFirst        whole strokes and an open one stand before the place, and there the cause told stops the reading
---   Verdict bs ss e     what is right to say of the page bs: it is the bytes of the strokes ss, or is refused after them
---   Judged bs           the page bs is read as is right
---   Alone bs            nothing else is right to say of it
+--   length_at, kind_at     the length and the kind that stand at the front of the bytes left
+--   Long k n               payloads of kind k have n bytes
+--   Code n                 a known code
+--   Holds c part bs        the cause c holds at the front of the bytes left, between strokes or inside one
+--   Stops c part bs        the cause c holds there, and none with a smaller number
+--   open_bytes, OpenFits   the records of the open stroke so far, and that they fit
+--   RefusedFirst           whole strokes and an open one stand before the place, and there the cause told stops the reading
+--   Verdict bs ss e        what is right to say of the page bs: it is the bytes of the strokes ss, or is refused after them
+--   Judged bs              the page bs is read as is right
+--   Alone bs               nothing else is right to say of it
 use Rattle.std.specs.Prelude.{◌≡◌, ℕ, ◌+◌, ◌^◌, ◌<◌, ◌≤◌, ◌⊎◌, List, [], ◌++◌, length, take, drop, ◌≢◌, slice_index}
 use Rattle.std.specs.List.{flat_map, AllByRecursion}
 use Rattle.refusal.specs.declared.Told.{Told}

@@ -1,10 +1,10 @@
--- The definitions that the contracts cite, each file after those it uses.
+-- The definitions that the contracts cite, each file after those it uses; then, from Numbers on, the lemmas by which the kinds of total show their laws.
 pub mod Laws
 pub mod Kinds
 pub mod Pairs
 pub mod Unlawful
 pub mod Whole
-pub mod SumLaws
 pub mod Numbers
-pub mod BothLaws
+pub mod SumLaws
 pub mod WorstLaws
+pub mod BothLaws
