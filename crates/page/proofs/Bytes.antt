@@ -1,5 +1,6 @@
 -- Laws of little-endian bytes.
-use Rattle.std.proofs.Common.{◌≡◌, ℕ, zero, suc, ◌+◌, ◌*◌, ◌/◌, ◌%◌, ◌^◌, ◌<◌, List, [], ◌∷◌, length, refl, div-lt_iff_lt-mul, pow-suc, arith}
+use Rattle.std.proofs.Common.{◌≡◌, ℕ, zero, suc, ◌+◌, ◌*◌, ◌/◌, ◌%◌, ◌^◌, ◌<◌, List, [], ◌∷◌, length, refl, div-lt_iff_lt-mul, pow-suc, arith, rules}
+use Rattle.std.specs.Int.{w64, to_le_bytes}
 use Rattle.std.specs.List.{AllByRecursion}
 use Rattle.page.specs.Little.{le, unle}
 use Rattle.page.specs.Fits.{Byte}
@@ -28,3 +29,7 @@ unle_lt [] h = omega arith
 unle_lt (b ∷ bs) h =
     let ih = unle_lt bs h.1 in
     rw pow-suc (omega (arith, h.0))
+
+-- the bytes of a number of eight bytes, by one division or several
+pub eight_low : (n : ℕ) → to_le_bytes w64 n ≡ le 8 n
+eight_low n = search rules

@@ -13,6 +13,7 @@ use Rattle.page.specs.Little.{unle}
 use Rattle.page.specs.Faults.{told_at}
 use Rattle.page.specs.Records.{Rec, start_rec, plain_rec, corner_rec, order_rec, one, front}
 use Rattle.page.specs.Strokes.{order_of, code, codes}
+use Rattle.page.specs.Codes.{known_order}
 use Rattle.page.specs.Steps.{meant}
 use Rattle.page.specs.Causes.{kind_at, Code, Holds, Stops}
 use Rattle.page.proofs.Framing.{front_one}
@@ -74,7 +75,7 @@ judge_order place bs p left e =
     let o : Order = order_of p in
     let at = codes_at bs p (omega arith) f.inside in
     let right : Holds OutOfPlace Inside bs → ⊥ = inner bs (omega arith) (λ k. omega arith) in
-    cond_both (codes o) (Ok (Finish o)) (Err (told_at WrongCode place)) (Judge place Inside bs)
+    cond_both (codes o) (Ok (Finish (known_order o))) (Err (told_at WrongCode place)) (Judge place Inside bs)
     (λ t.
     let both = and_parts (code o.measure) (code o.total) t in
     none place Inside bs sane right

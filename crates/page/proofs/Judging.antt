@@ -17,10 +17,12 @@ use Rattle.page.specs.Little.{le, unle}
 use Rattle.page.specs.Faults.{told_at}
 use Rattle.page.specs.Records.{Rec, start_rec, plain_rec, corner_rec, order_rec, size_of, payload, frame, Front, bad, one, front}
 use Rattle.page.specs.Strokes.{Stroke, stroke_of, start_bytes, point_bytes, order_bytes, stroke_bytes, page_bytes, point_of, order_of, codes}
+use Rattle.page.specs.Codes.{known_order}
 use Rattle.page.specs.Fits.{Byte, PointFits, StrokeFits}
 use Rattle.page.specs.Steps.{State, outside, inside, part_of, Reading, refused_by, meant, passes, stepped, at_front, read_on, read_from, reading}
 use Rattle.page.specs.Causes.{Stops, open_bytes, OpenFits, RefusedFirst, Verdict, Judged}
 use Rattle.page.specs.Laws.{AcceptedStays}
+use Rattle.page.proofs.Coding.{coded_known}
 use Rattle.page.proofs.Framing.{front_one, front_split, front_sound}
 use Rattle.page.proofs.Refusing.{front_bad, firstly}
 use Rattle.page.proofs.Bytes.{le_unle_at}
@@ -145,12 +147,12 @@ module _ (turns : ℕ) (still : Still turns) (pre bs : List ℕ) (few : length b
       let j = judge (length pre) Inside bs (order_rec p) left e in
       closing (codes o) refl j
     where
-      closing : (c : Bool) → codes (order_of p) ≡ c → Judge (length pre) Inside bs (cond c (Ok (Finish (order_of p))) (Err (told_at WrongCode (length pre)))) → After (inside n ps) (order_rec p) left (cond c (Ok (Finish (order_of p))) (Err (told_at WrongCode (length pre))))
+      closing : (c : Bool) → codes (order_of p) ≡ c → Judge (length pre) Inside bs (cond c (Ok (Finish (known_order (order_of p)))) (Err (told_at WrongCode (length pre)))) → After (inside n ps) (order_rec p) left (cond c (Ok (Finish (known_order (order_of p)))) (Err (told_at WrongCode (length pre))))
       closing true ok j =
           let s : Stroke = stroke_of n ps (order_of p) in
           let v = onwards turns still pre bs few h (order_rec p) left e (ss ++ s ∷ []) outside (close_stroke pre ss n ps p b (front_one bs _ left e).size (front_sound bs _ left h e).bytes ok) in
           let r : Reading = read_from (length pre + 18) outside left in
-          subst (λ l. Verdict (pre ++ bs) l r.ending) (append_assoc ss (s ∷ []) r.strokes) v
+          subst (λ l. Verdict (pre ++ bs) l r.ending) (append_assoc ss (s ∷ []) r.strokes ∙ ap (λ o. ss ++ stroke_of n ps o ∷ r.strokes) (sym (coded_known (order_of p) ok))) v
       closing false ok j = ill (inside n ps) _ b j
 
 -- EVERY PAGE

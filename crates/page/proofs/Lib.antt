@@ -7,6 +7,7 @@ pub mod Refusing
 pub mod Stepping
 pub mod Putting
 pub mod Kepts
+pub mod Coding
 pub mod Returning
 pub mod Causing
 pub mod Payloads

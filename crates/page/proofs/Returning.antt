@@ -13,10 +13,12 @@ use Rattle.page.specs.declared.kinds.Step.TheVariants.{Begin, Point as Next, Fin
 use Rattle.page.specs.Little.{le, unle}
 use Rattle.page.specs.Records.{Rec, start_rec, plain_rec, corner_rec, order_rec, payload, size_of, record_bytes, frame}
 use Rattle.page.specs.Strokes.{Stroke, start_bytes, mark_kind, point_payload, point_bytes, order_payload, order_bytes, stroke_bytes, page_bytes, point_of, order_of, codes}
+use Rattle.page.specs.Codes.{known_order}
 use Rattle.page.specs.Fits.{PointFits, StrokeFits}
-use Rattle.page.specs.Steps.{meant, State, outside, inside, part_of, Reading, accepted, closed, onward, read_on, read_from}
+use Rattle.page.specs.Steps.{meant, State, outside, inside, part_of, Reading, accepted, onward, read_on, read_from}
 use Rattle.page.specs.Causes.{open_bytes, OpenFits}
 use Rattle.page.proofs.Bytes.{unle_le}
+use Rattle.page.proofs.Coding.{coded_known}
 use Rattle.page.proofs.Framing.{front_frame}
 use Rattle.page.proofs.Stepping.{read_step, step_one}
 use Rattle.page.proofs.Putting.{joined_length, point_length}
@@ -63,11 +65,15 @@ order_back o p q =
     let n : o.total + 0 * 256 ≡ o.total = omega arith in
     λ i. record { measure = m i; total = n i; span = unle_le 4 o.span p i; tolerance = unle_le 8 o.tolerance q i }
 
-read_order : (place n : ℕ) (ps : List Point) (o : Order) (rest : List ℕ) → codes o ≡ true → o.span < 2 ^ 32 → o.tolerance < 2 ^ 64 → read_from place (inside n ps) (order_bytes o ++ rest) ≡ closed (inside n ps) o (read_from (place + 18) outside rest)
+-- what is read on, behind the open stroke with this order
+abbrev with_order : ℕ → List Point → Order → Reading → Reading
+with_order n ps o r = behind (record { number = n; points = ps; order = o } ∷ []) r
+
+read_order : (place n : ℕ) (ps : List Point) (o : Order) (rest : List ℕ) → codes o ≡ true → o.span < 2 ^ 32 → o.tolerance < 2 ^ 64 → read_from place (inside n ps) (order_bytes o ++ rest) ≡ with_order n ps o (read_from (place + 18) outside rest)
 read_order place n ps o rest ok p q =
     let back = order_back o p q in
-    read_record place (inside n ps) (order_rec (order_payload o)) rest (Finish (order_of (order_payload o))) refl (cond-true _ _ _ (ap codes back ∙ ok))
-    ∙ ap (λ x. closed (inside n ps) x (read_from (place + 18) outside rest)) back
+    read_record place (inside n ps) (order_rec (order_payload o)) rest (Finish (known_order (order_of (order_payload o)))) refl (cond-true _ _ _ (ap codes back ∙ ok))
+    ∙ ap (λ x. with_order n ps x (read_from (place + 18) outside rest)) (coded_known (order_of (order_payload o)) (ap codes back ∙ ok) ∙ back)
 
 -- an open stroke
 pub read_open : (place : ℕ) (s : State) (rest : List ℕ) → OpenFits s → read_from place outside (open_bytes s ++ rest) ≡ read_from (place + length (open_bytes s)) s rest

@@ -12,6 +12,7 @@ use Rattle.page.specs.declared.kinds.Step.TheVariants.{Begin, Point as Next, Fin
 use Rattle.page.specs.Faults.{told_at}
 use Rattle.page.specs.Records.{Rec, start_rec, plain_rec, corner_rec, order_rec, size_of, Front, bad, one, front}
 use Rattle.page.specs.Strokes.{stroke_of, order_of, codes}
+use Rattle.page.specs.Codes.{coded, known_order}
 use Rattle.page.specs.Steps.{meant, part_before, part_after, Stepped, stays, passes, at_end, at_front, stepped, State, outside, inside, state_of, part_of, Reading, onward, read_on, read_by, read_from}
 use Rattle.page.specs.Walks.{Falls, Parts}
 use Rattle.page.proofs.Framing.{never, front_less}
@@ -48,7 +49,7 @@ meant_made place Outside (order_rec p) = tt
 meant_made place Inside (start_rec p) = tt
 meant_made place Inside (plain_rec p) = refl
 meant_made place Inside (corner_rec p) = refl
-meant_made place Inside (order_rec p) = cond_both (codes (order_of p)) (Ok (Finish (order_of p))) (Err (told_at WrongCode place)) (Made Inside) (λ _. refl) (λ _. tt)
+meant_made place Inside (order_rec p) = cond_both (codes (order_of p)) (Ok (Finish (known_order (order_of p)))) (Err (told_at WrongCode place)) (Made Inside) (λ _. refl) (λ _. tt)
 
 passes_parts : (place : ℕ) (part : Part) (bs : List ℕ) (r : Rec) (left : List ℕ) (a : Result Step Told) → Made part a → Parts part (passes place part bs r left a).part (passes place part bs r left a).answer
 passes_parts place part bs r left (Ok s) h = (h, refl)
@@ -70,7 +71,7 @@ same_onward s f g new old (Ok (Begin n)) l h = h l (inside n [])
 same_onward (outside) f g new old (Ok (Next p)) l h = h l outside
 same_onward (inside n ps) f g new old (Ok (Next p)) l h = h l (inside n (ps ++ p ∷ []))
 same_onward outside f g new old (Ok (Finish o)) l h = h l outside
-same_onward (inside n ps) f g new old (Ok (Finish o)) l h = ap (λ r. record { strokes = stroke_of n ps o ∷ r.strokes; ending = r.ending }) (h l outside)
+same_onward (inside n ps) f g new old (Ok (Finish o)) l h = ap (λ r. record { strokes = stroke_of n ps (coded o) ∷ r.strokes; ending = r.ending }) (h l outside)
 same_onward s f g new old (Ok End) l h = refl
 same_onward s f g new old (Err t) l h = refl
 

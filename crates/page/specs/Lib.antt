@@ -3,6 +3,8 @@ pub mod Little
 pub mod Faults
 pub mod Records
 pub mod Strokes
+pub mod Kinds
+pub mod Codes
 pub mod Fits
 pub mod Steps
 pub mod Causes

@@ -26,7 +26,7 @@ use Rattle.refusal.specs.declared.Told.{Told}
 use Rattle.page.specs.declared.fault.PageCause.TheVariants.{OutOfPlace, WrongCode}
 use Rattle.tray.specs.declared.point.Mark.TheVariants.{Plain, Corner}
 use Rattle.page.specs.declared.kinds.Point.{Point}
-use Rattle.page.specs.declared.kinds.Order.{Order}
+use Rattle.page.specs.declared.order.KnownOrder.{KnownOrder}
 use Rattle.page.specs.declared.kinds.Part.{Part}
 use Rattle.page.specs.declared.kinds.Part.TheVariants.{Outside, Inside}
 use Rattle.page.specs.declared.kinds.Step.{Step}
@@ -35,6 +35,7 @@ use Rattle.page.specs.Little.{unle}
 use Rattle.page.specs.Faults.{told_at}
 use Rattle.page.specs.Records.{Rec, start_rec, plain_rec, corner_rec, order_rec, size_of, Front, bad, one, front}
 use Rattle.page.specs.Strokes.{Stroke, stroke_of, point_of, order_of, codes}
+use Rattle.page.specs.Codes.{coded, known_order}
 
 abbrev pub looked_at : ℕ → Front → Result (Option Rec) Told
 looked_at place (bad c) = Err (told_at c place)
@@ -52,7 +53,7 @@ meant place Outside (order_rec p) = Err (told_at OutOfPlace place)
 meant place Inside (start_rec p) = Err (told_at OutOfPlace place)
 meant place Inside (plain_rec p) = Ok (Next (point_of Plain p))
 meant place Inside (corner_rec p) = Ok (Next (point_of Corner p))
-meant place Inside (order_rec p) = cond (codes (order_of p)) (Ok (Finish (order_of p))) (Err (told_at WrongCode place))
+meant place Inside (order_rec p) = cond (codes (order_of p)) (Ok (Finish (known_order (order_of p)))) (Err (told_at WrongCode place))
 
 abbrev pub part_before : Step → Part
 part_before (Begin n) = Outside
@@ -115,9 +116,9 @@ abbrev pub pointed : State → Point → State
 pointed outside p = outside
 pointed (inside n ps) p = inside n (ps ++ p ∷ [])
 
-abbrev pub closed : State → Order → Reading → Reading
+abbrev pub closed : State → KnownOrder → Reading → Reading
 closed outside o r = r
-closed (inside n ps) o r = record { strokes = stroke_of n ps o ∷ r.strokes; ending = r.ending }
+closed (inside n ps) o r = record { strokes = stroke_of n ps (coded o) ∷ r.strokes; ending = r.ending }
 
 abbrev pub onward : State → (State → Reading) → Result Step Told → Reading
 onward s go (Ok (Begin n)) = go (inside n [])

@@ -12,7 +12,6 @@ use Rattle.std.specs.Borrow.{Bor}
 use Rattle.refusal.specs.declared.Told.{Told}
 use Rattle.refusal.specs.Said.{said}
 use Rattle.page.specs.declared.fault.PageFault.{PageFault}
-use Rattle.page.specs.declared.fault.StepFault.{StepFault}
 use Rattle.page.specs.declared.kinds.Record.{Record}
 use Rattle.page.specs.declared.kinds.Record.TheVariants.{Start, Plain, Corner, Order}
 use Rattle.page.specs.declared.kinds.Placed.{Placed}
@@ -20,7 +19,7 @@ use Rattle.page.specs.declared.kinds.Part.{Part}
 use Rattle.page.specs.declared.kinds.Step.{Step}
 use Rattle.page.specs.declared.kinds.Step.TheVariants.{Begin, Point as Next, Finish, End}
 use Rattle.page.specs.declared.walk.Walk.{Walk}
-use Rattle.page.specs.Faults.{told, step_told}
+use Rattle.page.specs.Faults.{told}
 use Rattle.page.specs.Records.{Rec, payload, size_of, start_rec, plain_rec, corner_rec, order_rec, Front, bad, one}
 use Rattle.page.specs.Steps.{part_before, part_after, Stepped}
 
@@ -48,8 +47,8 @@ InPlace place bs (Ok (Some p)) = (p.place ≡ place) × (payload (rec_of p.recor
 InPlace place bs (Ok None) = Unit {0}
 InPlace place bs (Err f) = Unit {0}
 
-abbrev pub seen : Result Step StepFault → Walk → Stepped
-seen r w = record { answer = said step_told r; place = w.place; part = w.part; rest = w.rest.now }
+abbrev pub seen : Result Step PageFault → Walk → Stepped
+seen r w = record { answer = said told r; place = w.place; part = w.part; rest = w.rest.now }
 
 abbrev pub Falls : ℕ → ℕ → Result Step Told → Type 0
 Falls new old (Ok (Begin n)) = new < old

@@ -1,48 +1,26 @@
 // Numbers, points and orders taken from a payload.
 ghost use Rattle.std.specs.Prelude.{◌≡◌, ◌+◌, ◌≤◌, length, take, drop};
-ghost use Rattle.std.specs.Int.{w16};
-ghost use Rattle.std.proofs.Common.{to_z};
 ghost use Rattle.page.specs.Little.{unle};
 ghost use Rattle.page.specs.Strokes.{point_of, order_of};
 
 use crate::kinds::{Order, Point};
 use tray::point::Mark;
 
-fn i16_at(p: &[u8], i: usize) -> i16
-    requires { i + 2 ≤ length p.now }
-    ensures { result ≡ to_z w16 (unle (take 2 (drop i p.now))) }
+// The N bytes from the place i on.
+fn bytes_at<const N: usize>(p: &[u8], i: usize) -> [u8; N]
+    requires { i + N ≤ length p.now }
+    ensures { result ≡ take N (drop i p.now) }
 {
-    i16::from_le_bytes([p[i], p[i + 1]])
-}
-
-fn u32_at(p: &[u8], i: usize) -> u32
-    requires { i + 4 ≤ length p.now }
-    ensures { result ≡ unle (take 4 (drop i p.now)) }
-{
-    u32::from_le_bytes([p[i], p[i + 1], p[i + 2], p[i + 3]])
-}
-
-fn u64_at(p: &[u8], i: usize) -> u64
-    requires { i + 8 ≤ length p.now }
-    ensures { result ≡ unle (take 8 (drop i p.now)) }
-{
-    u64::from_le_bytes([
-        p[i],
-        p[i + 1],
-        p[i + 2],
-        p[i + 3],
-        p[i + 4],
-        p[i + 5],
-        p[i + 6],
-        p[i + 7],
-    ])
+    let mut bytes = [0; N];
+    bytes.copy_from_slice(&p[i..i + N]);
+    bytes
 }
 
 pub(crate) fn number(p: &[u8]) -> u32
     requires { length p.now ≡ 4 }
     ensures { result ≡ unle p.now }
 {
-    u32_at(p, 0)
+    u32::from_le_bytes(bytes_at(p, 0))
 }
 
 pub(crate) fn point(p: &[u8], mark: Mark) -> Point
@@ -50,9 +28,9 @@ pub(crate) fn point(p: &[u8], mark: Mark) -> Point
     ensures { result ≡ point_of mark p.now }
 {
     Point {
-        x: i16_at(p, 0),
-        y: i16_at(p, 2),
-        t: u32_at(p, 4),
+        x: i16::from_le_bytes(bytes_at(p, 0)),
+        y: i16::from_le_bytes(bytes_at(p, 2)),
+        t: u32::from_le_bytes(bytes_at(p, 4)),
         mark,
     }
 }
@@ -64,7 +42,7 @@ pub(crate) fn order(p: &[u8]) -> Order
     Order {
         measure: p[0],
         total: p[1],
-        span: u32_at(p, 2),
-        tolerance: u64_at(p, 6),
+        span: u32::from_le_bytes(bytes_at(p, 2)),
+        tolerance: u64::from_le_bytes(bytes_at(p, 6)),
     }
 }

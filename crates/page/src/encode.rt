@@ -1,35 +1,26 @@
 // Records as bytes, and bytes put into a page.
 ghost use Rattle.std.specs.Prelude.{◌≡◌, ◌+◌, ◌*◌, ◌<◌, ◌≤◌, ◌++◌, length, nat_le};
-ghost use Rattle.page.specs.Strokes.{start_bytes, mark_kind, point_bytes, order_bytes};
+ghost use Rattle.page.specs.Strokes.{start_bytes, point_bytes, order_bytes};
 ghost use Rattle.page.specs.Little.{le};
 ghost use Rattle.page.specs.Answers.{refused_bytes};
 ghost use Rattle.page.specs.Fits.{PointFits};
 ghost use Rattle.page.specs.Writes.{written};
 
+use crate::kind::Kind;
 use crate::kinds::{Order, Point};
-use tray::point::Mark;
 
 pub(crate) fn start_record(number: u32) -> [u8; 8]
     ensures { result ≡ start_bytes number }
 {
     let [a, b, c, d] = number.to_le_bytes();
-    [4, 0, 1, 0, a, b, c, d]
-}
-
-fn mark_kind(m: Mark) -> u8
-    ensures { result ≡ mark_kind m }
-{
-    match m {
-        Mark::Plain => 2,
-        Mark::Corner => 3,
-    }
+    [4, 0, Kind::Start.byte(), 0, a, b, c, d]
 }
 
 pub(crate) fn point_record(p: Point) -> [u8; 12]
     ensures bytes { result ≡ point_bytes p }
     ensures fits { PointFits p }
 {
-    let kind = mark_kind(p.mark);
+    let kind = Kind::from(p.mark).byte();
     let [x0, x1] = p.x.to_le_bytes();
     let [y0, y1] = p.y.to_le_bytes();
     let [a, b, c, d] = p.t.to_le_bytes();
@@ -42,7 +33,24 @@ pub(crate) fn order_record(o: Order) -> [u8; 18]
     let [s0, s1, s2, s3] = o.span.to_le_bytes();
     let [a, b, c, d, e, f, g, h] = o.tolerance.to_le_bytes();
     [
-        14, 0, 4, 0, o.measure, o.total, s0, s1, s2, s3, a, b, c, d, e, f, g, h,
+        14,
+        0,
+        Kind::Order.byte(),
+        0,
+        o.measure,
+        o.total,
+        s0,
+        s1,
+        s2,
+        s3,
+        a,
+        b,
+        c,
+        d,
+        e,
+        f,
+        g,
+        h,
     ]
 }
 
@@ -54,19 +62,7 @@ pub(crate) fn kept_start(number: u32, count: usize) -> [u8; 8]
     let size = 20 + 2 * count as u16;
     let [s0, s1] = size.to_le_bytes();
     let [a, b, c, d] = number.to_le_bytes();
-    [s0, s1, 5, 0, a, b, c, d]
-}
-
-pub(crate) fn total_field(n: u64) -> [u8; 8]
-    ensures { result ≡ le 8 n }
-{
-    n.to_le_bytes()
-}
-
-pub(crate) fn kept_number(n: u16) -> [u8; 2]
-    ensures { result ≡ le 2 n }
-{
-    n.to_le_bytes()
+    [s0, s1, Kind::Kept.byte(), 0, a, b, c, d]
 }
 
 pub(crate) fn refused_record(number: u32, refusal: u16, place: u16) -> [u8; 12]
@@ -75,7 +71,7 @@ pub(crate) fn refused_record(number: u32, refusal: u16, place: u16) -> [u8; 12]
     let [a, b, c, d] = number.to_le_bytes();
     let [r0, r1] = refusal.to_le_bytes();
     let [p0, p1] = place.to_le_bytes();
-    [8, 0, 6, 0, a, b, c, d, r0, r1, p0, p1]
+    [8, 0, Kind::Refused.byte(), 0, a, b, c, d, r0, r1, p0, p1]
 }
 
 // Whether `head` bytes and `count` times `each` fit into `len` behind those used.

@@ -29,19 +29,19 @@ impl PageCause {
     }
 }
 
-impl PageFault {
-    pub fn told(self) -> Told
-        ensures { result ≡ told self }
-    {
+impl From<PageFault> for Told {
+    ghost from_gives = { λ f r. r ≡ told f };
+
+    fn from(fault: PageFault) -> Told {
         Told {
-            number: self.cause as u16,
-            place: self.place,
+            number: fault.cause as u16,
+            place: fault.place,
             layer: Layer::Page,
         }
     }
 }
 
-// What stops a step over a page of strokes: that page, or the page of answers that is written on the way.
+// What stops a caller who reads one page and writes another: the page of strokes, or the page of answers.
 #[derive(Clone, Copy, Debug, PartialEq, Eq)]
 pub enum StepFault {
     Page(PageFault),
@@ -56,13 +56,13 @@ impl From<PageFault> for StepFault {
     }
 }
 
-impl StepFault {
-    pub fn told(self) -> Told
-        ensures { result ≡ step_told self }
-    {
-        match self {
-            StepFault::Page(f) => f.told(),
-            StepFault::Answers(f) => f.told(),
+impl From<StepFault> for Told {
+    ghost from_gives = { λ f r. r ≡ step_told f };
+
+    fn from(fault: StepFault) -> Told {
+        match fault {
+            StepFault::Page(f) => Told::from(f),
+            StepFault::Answers(f) => Told::from(f),
         }
     }
 }

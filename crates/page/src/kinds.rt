@@ -1,7 +1,5 @@
 // What the records of a page hold, and what a walk tells of them.
-ghost use Rattle.std.specs.Prelude.{◌≡◌};
-ghost use Rattle.page.specs.Strokes.{code, codes};
-
+use crate::order::KnownOrder;
 use tray::point::Mark;
 
 // A record by its kind, with its payload, which is still a part of the page.
@@ -28,7 +26,7 @@ pub struct Point {
     pub mark: Mark,
 }
 
-// How a stroke is to be reduced. Measure and total are codes as they stand on the page.
+// How a stroke is to be reduced, as it stands on the page: measure and total are codes, known or not. The writer takes any codes and refuses those that are not known, so they are numbers here.
 #[derive(Clone, Copy, Debug, PartialEq, Eq)]
 pub struct Order {
     pub measure: u8,
@@ -56,21 +54,6 @@ pub enum Part {
 pub enum Step {
     Begin(u32),
     Point(Point),
-    Finish(Order),
+    Finish(KnownOrder),
     End,
-}
-
-fn is_code(n: u8) -> bool
-    ensures { result ≡ code n }
-{
-    1 <= n && n <= 3
-}
-
-impl Order {
-    // Whether both codes are known.
-    pub(crate) fn has_codes(self) -> bool
-        ensures { result ≡ codes self }
-    {
-        is_code(self.measure) && is_code(self.total)
-    }
 }

@@ -4,7 +4,9 @@
 mod decode;
 mod encode;
 pub mod fault;
+mod kind;
 pub mod kinds;
+pub mod order;
 mod record;
 mod steps;
 pub mod walk;

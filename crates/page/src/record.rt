@@ -4,17 +4,18 @@ ghost use Rattle.page.specs.Records.{size_of, known, front};
 ghost use Rattle.page.specs.Walks.{rec_of, shown, front_of};
 
 use crate::fault::{PageCause, PageFault};
+use crate::kind::Kind;
 use crate::kinds::{Placed, Record};
 
-// The record of a known kind.
+// The record of a kind that a page of strokes has.
 fn of_kind<'a>(kind: u16, bytes: &'a [u8]) -> Option<Record<'a>>
     ensures { shown result ≡ known kind bytes.now }
 {
-    match kind {
-        1 => Some(Record::Start(bytes)),
-        2 => Some(Record::Plain(bytes)),
-        3 => Some(Record::Corner(bytes)),
-        4 => Some(Record::Order(bytes)),
+    match Kind::try_from(kind) {
+        Ok(Kind::Start) => Some(Record::Start(bytes)),
+        Ok(Kind::Plain) => Some(Record::Plain(bytes)),
+        Ok(Kind::Corner) => Some(Record::Corner(bytes)),
+        Ok(Kind::Order) => Some(Record::Order(bytes)),
         _ => None,
     }
 }
@@ -43,7 +44,7 @@ pub(crate) fn first_record<'a>(
     let [l0, l1, k0, k1, tail @ ..] = rest else {
         return Err(PageCause::CutRecord.at(place));
     };
-    let size = u16::from_le_bytes([*l0, *l1]) as usize;
+    let size = usize::from(u16::from_le_bytes([*l0, *l1]));
     let kind = u16::from_le_bytes([*k0, *k1]);
     if tail.len() < size {
         return Err(PageCause::CutRecord.at(place));

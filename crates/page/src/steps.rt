@@ -1,8 +1,8 @@
 // A page walked from its front, a record a step.
-ghost use Rattle.std.specs.Prelude.{◌≡◌, ℕ, ◌+◌, ◌^◌, ◌<◌, List, length, IfErr};
+ghost use Rattle.std.specs.Prelude.{◌≡◌, ℕ, ◌+◌, ◌^◌, ◌<◌, List, length};
 ghost use Rattle.refusal.specs.Said.{said};
 ghost use Rattle.page.specs.declared.kinds.Point.{Point};
-ghost use Rattle.page.specs.Faults.{told, step_told, OfPage};
+ghost use Rattle.page.specs.Faults.{told};
 ghost use Rattle.page.specs.Records.{payload, size_of};
 ghost use Rattle.page.specs.Steps.{looked, meant, part_after, at_end, stepped, state_of, read_on, read_from};
 ghost use Rattle.page.specs.Causes.{Judged, Alone};
@@ -10,8 +10,9 @@ ghost use Rattle.page.specs.Laws.{AcceptedStays};
 ghost use Rattle.page.specs.Walks.{rec_of, looked_of, InPlace, seen, Falls, Parts};
 
 use crate::decode;
-use crate::fault::{PageCause, PageFault, StepFault};
+use crate::fault::{PageCause, PageFault};
 use crate::kinds::{Part, Placed, Record, Step};
+use crate::order::KnownOrder;
 use crate::record::first_record;
 use crate::walk::Walk;
 use tray::point::Mark;
@@ -22,23 +23,17 @@ fn meaning(p: Placed, part: Part) -> Result<Step, PageFault>
     ensures { said told result ≡ meant p.entry.place part (rec_of p.entry.record) }
 {
     let place = p.place;
-    match part {
-        Part::Outside => match p.record {
-            Record::Start(b) => Ok(Step::Begin(decode::number(b))),
-            _ => Err(PageCause::OutOfPlace.at(place)),
-        },
-        Part::Inside => match p.record {
-            Record::Start(_) => Err(PageCause::OutOfPlace.at(place)),
-            Record::Plain(b) => Ok(Step::Point(decode::point(b, Mark::Plain))),
-            Record::Corner(b) => Ok(Step::Point(decode::point(b, Mark::Corner))),
-            Record::Order(b) => {
-                let order = decode::order(b);
-                if !order.has_codes() {
-                    return Err(PageCause::WrongCode.at(place));
-                }
-                Ok(Step::Finish(order))
-            }
-        },
+    match (part, p.record) {
+        (Part::Outside, Record::Start(b)) => Ok(Step::Begin(decode::number(b))),
+        (Part::Inside, Record::Plain(b)) => Ok(Step::Point(decode::point(b, Mark::Plain))),
+        (Part::Inside, Record::Corner(b)) => Ok(Step::Point(decode::point(b, Mark::Corner))),
+        (Part::Inside, Record::Order(b)) => {
+            let order = KnownOrder::try_from(decode::order(b)).map_err(|_| PageCause::WrongCode.at(
+                place,
+            ))?;
+            Ok(Step::Finish(order))
+        }
+        _ => Err(PageCause::OutOfPlace.at(place)),
     }
 }
 
@@ -97,18 +92,16 @@ impl<'a> Walk<'a> {
     }
 
     // One record more, or the end of the page; a refused step moves nothing.
-    pub fn step(&mut self) -> Result<Step, StepFault>
+    pub fn step(&mut self) -> Result<Step, PageFault>
         ensures steps { seen result self.new ≡ stepped self.old.place self.old.part self.old.rest.now }
-        ensures source { IfErr result OfPage }
         ensures reads { (n : ℕ) (ps : List Point) → read_from self.old.place (state_of self.old.part n ps) self.old.rest.now ≡ read_on (state_of self.old.part n ps) read_from (seen result self.new) }
-        ensures falls { Falls (length self.new.rest.now) (length self.old.rest.now) (said step_told result) }
-        ensures parts { Parts self.old.part self.new.part (said step_told result) }
+        ensures falls { Falls (length self.new.rest.now) (length self.old.rest.now) (said told result) }
+        ensures parts { Parts self.old.part self.new.part (said told result) }
     {
         let place = self.place;
         let part = self.part;
         if self.rest.is_empty() {
-            let end = page_end(place, part)?;
-            return Ok(end);
+            return page_end(place, part);
         }
         let (placed, after) = first_record(self.rest, place)?;
         let step = meaning(placed, part)?;

@@ -5,11 +5,11 @@ ghost use Rattle.page.specs.Laws.{WrittenReadsBack};
 ghost use Rattle.page.specs.Appends.{outcome, appends_stroke, appends_kept, appends_refused, OneMore};
 
 use crate::encode::{
-    has_room, kept_number, kept_start, order_record, point_record, put, refused_record,
-    start_record, total_field,
+    has_room, kept_start, order_record, point_record, put, refused_record, start_record,
 };
 use crate::fault::{PageCause, PageFault};
 use crate::kinds::{Order, Point, Totals};
+use crate::order::KnownOrder;
 
 // The most kept numbers whose record's length fits its two bytes.
 const MOST_KEPT: usize = 32757;
@@ -40,21 +40,20 @@ impl Writer {
         ensures reads { IfOk result (λ n. OneMore self.old.used page.old (stroke_of number points.now order) n page.new) }
     {
         let used = self.used;
-        if !order.has_codes() {
+        if KnownOrder::try_from(order).is_err() {
             return Err(PageCause::WrongCode.at(used));
         }
         if !has_room(page.len(), used, 26, 12, points.len()) {
             return Err(PageCause::ShortPage.at(used));
         }
         put(page, used, &start_record(number));
-        let mut at = used + 8;
-        for p in points {
-            put(page, at, &point_record(*p));
-            at += 12;
+        for (k, p) in points.iter().enumerate() {
+            put(page, used + 8 + 12 * k, &point_record(*p));
         }
-        put(page, at, &order_record(order));
-        self.used = at + 18;
-        Ok(at + 18)
+        let end = used + 8 + 12 * points.len();
+        put(page, end, &order_record(order));
+        self.used = end + 18;
+        Ok(self.used)
     }
 
     // Appends the record of kept points in the same way.
@@ -73,15 +72,13 @@ impl Writer {
             return Err(PageCause::ShortPage.at(used));
         }
         put(page, used, &kept_start(number, count));
-        put(page, used + 8, &total_field(totals.first));
-        put(page, used + 16, &total_field(totals.second));
-        let mut at = used + 24;
-        for n in numbers {
-            put(page, at, &kept_number(*n));
-            at += 2;
+        put(page, used + 8, &totals.first.to_le_bytes());
+        put(page, used + 16, &totals.second.to_le_bytes());
+        for (k, n) in numbers.iter().enumerate() {
+            put(page, used + 24 + 2 * k, &n.to_le_bytes());
         }
-        self.used = at;
-        Ok(at)
+        self.used = used + 24 + 2 * count;
+        Ok(self.used)
     }
 
     // Appends the record of a refusal in the same way.
@@ -100,6 +97,6 @@ impl Writer {
         }
         put(page, used, &refused_record(number, refusal, place));
         self.used = used + 12;
-        Ok(used + 12)
+        Ok(self.used)
     }
 }

@@ -8,7 +8,7 @@ use Rattle.page.proofs.record.first_record.Goals as goal
 
 pub returns : goal.returns
 returns c =
-    let n : ℕ = c.from_le_bytes-size.result in
+    let n : ℕ = c.from-size.result in
     let k : ℕ = c.from_le_bytes-kind.result in
     let tail : List ℕ = take (length c.args.rest.now - 4) (drop 4 c.args.rest.now) in
     let r : Rec = rec_of c.in-Some.record in
@@ -18,6 +18,6 @@ returns c =
           ∙ sym (cond-true _ _ _ (eq-eqb n (size_of r) size))
           ∙ ap (sized n tail) c.in-Some.ensures
           ∙ ap (λ p. sized n tail (known k p)) c.split_at.ensures.front
-          ∙ front_header c.args.rest.now n k (search rules) c.from_le_bytes-size.ensures c.from_le_bytes-kind.ensures c.if-tail-size.false;
+          ∙ front_header c.args.rest.now n k (search rules) (c.from-size.ensures ∙ c.from_le_bytes.ensures) c.from_le_bytes-kind.ensures c.if-tail-size.false;
       place = refl;
     }

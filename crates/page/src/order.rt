@@ -1,0 +1,81 @@
+// Orders whose codes are known, and what the codes name.
+ghost use Rattle.std.specs.Prelude.{◌≡◌};
+ghost use Rattle.page.specs.Codes.{NamesMeasure, NamesTotal, NamesOrder};
+
+use crate::kinds::Order;
+
+// The measures that an order can name, by their codes on the page.
+#[derive(Clone, Copy, Debug, PartialEq, Eq)]
+pub enum MeasureKind {
+    Synchronous = 1,
+    Distance = 2,
+    Area = 3,
+}
+
+// The kinds of total that an order can name, by their codes on the page.
+#[derive(Clone, Copy, Debug, PartialEq, Eq)]
+pub enum TotalKind {
+    Sum = 1,
+    Worst = 2,
+    SumThenWorst = 3,
+}
+
+// An order whose two codes are known.
+#[derive(Clone, Copy, Debug, PartialEq, Eq)]
+pub struct KnownOrder {
+    pub measure: MeasureKind,
+    pub total: TotalKind,
+    pub span: u32,
+    pub tolerance: u64,
+}
+
+// A code that names nothing.
+#[derive(Clone, Copy, Debug, PartialEq, Eq)]
+pub struct UnknownCode(pub u8);
+
+impl TryFrom<u8> for MeasureKind {
+    type Error = UnknownCode;
+
+    ghost try_from_gives = { NamesMeasure };
+
+    fn try_from(code: u8) -> Result<MeasureKind, UnknownCode> {
+        match code {
+            1 => Ok(MeasureKind::Synchronous),
+            2 => Ok(MeasureKind::Distance),
+            3 => Ok(MeasureKind::Area),
+            _ => Err(UnknownCode(code)),
+        }
+    }
+}
+
+impl TryFrom<u8> for TotalKind {
+    type Error = UnknownCode;
+
+    ghost try_from_gives = { NamesTotal };
+
+    fn try_from(code: u8) -> Result<TotalKind, UnknownCode> {
+        match code {
+            1 => Ok(TotalKind::Sum),
+            2 => Ok(TotalKind::Worst),
+            3 => Ok(TotalKind::SumThenWorst),
+            _ => Err(UnknownCode(code)),
+        }
+    }
+}
+
+impl TryFrom<Order> for KnownOrder {
+    type Error = UnknownCode;
+
+    ghost try_from_gives = { NamesOrder };
+
+    fn try_from(order: Order) -> Result<KnownOrder, UnknownCode> {
+        let measure = MeasureKind::try_from(order.measure)?;
+        let total = TotalKind::try_from(order.total)?;
+        Ok(KnownOrder {
+            measure,
+            total,
+            span: order.span,
+            tolerance: order.tolerance,
+        })
+    }
+}
