@@ -1,12 +1,11 @@
 -- What an answered put tells, and what the puts of a stroke make.
-use Rattle.std.proofs.Common.{◌≡◌, ℕ, ◌+◌, ◌<◌, true, false, List, [], ◌∷◌, ◌++◌, map, length, take, set, ℤ, is_ok, Ok, Err, Result, sym, refl, ap, ◌∙◌, subst, inl, inr, arith}
+use Rattle.std.proofs.Common.{◌≡◌, ℕ, ◌+◌, ◌<◌, true, false, List, [], ◌∷◌, ◌++◌, map, length, ℤ, is_ok, Ok, Err, Result, sym, refl, ap, ◌∙◌, subst, inl, inr, arith}
 use mathlib.Core.List.{foldl, foldl-append}
 use Rattle.std.proofs.lemmas.Bool.{both_ways, leb-false}
-use Rattle.std.proofs.lemmas.List.{take_more_set, map_push, length_push, length-map, append-nil, append_assoc}
+use Rattle.std.proofs.lemmas.List.{append-nil, append_assoc}
 use Rattle.refusal.specs.declared.Told.{Told}
 use Rattle.tray.specs.declared.point.Point.{Point}
-use Rattle.tray.specs.declared.point.Mark.{Mark}
-use Rattle.tray.specs.Machine.{plain, put_says, put_after}
+use Rattle.tray.specs.Machine.{plain, if_answered, put_says, put_after}
 use Rattle.tray.proofs.Puts.{does_add}
 use Rattle.tray.proofs.Lawfuls.{outcome}
 use Rattle.page.specs.declared.kinds.Point.{Point as Dot}
@@ -28,9 +27,10 @@ added ps vx vy vt n e = elim (outcome ps vx vy vt) [
       record { number = ok_same n (length ps + 1) _ e d.0; room = leb-false 512 (length ps) o.3; after = sym d.1 }
 ]
 
--- the mark at the end of those noted
-pub noted : (ms : List Mark) (n k : ℕ) (m : Mark) → k ≡ n → n < length ms → take (n + 1) (set ms k m) ≡ take n ms ++ m ∷ []
-noted ms n k m e h = ap (λ i. take (n + 1) (set ms i m)) e ∙ take_more_set ms n m h
+-- a refused put leaves the points as they were
+pub refused_put : (ps : List Point) (vx vy : ℤ) (vt : ℕ) (t : Told) → Err t ≡ put_says ps vx vy vt → put_after ps vx vy vt ≡ ps
+unfolding put_after
+refused_put ps vx vy vt t e = ap (λ r. if_answered r (ps ++ plain vx vy vt ∷ []) ps) (sym e)
 
 -- one point more
 pub drawing_more : (ps : List Dot) (p : Dot) → drawing (ps ++ p ∷ []) ≡ drawn_with (drawing ps) p
@@ -64,12 +64,3 @@ plain_from (p ∷ ps) acc qs e = plain_put p ps (plain_from ps) acc qs (put_says
 
 pub drawn_plain : (ps : List Dot) (qs : List Point) → drawing ps ≡ Ok qs → qs ≡ map plain_of ps
 drawn_plain ps qs e = plain_from ps [] qs e
-
--- the marks of one point more
-pub marks_more : (ms ms' : List Mark) (ps : List Dot) (qs : List Point) (p : Dot) → drawing ps ≡ Ok qs →
-    take (length ps) ms ≡ map (λ d. d.mark) ps → take (length qs + 1) ms' ≡ take (length qs) ms ++ p.mark ∷ [] →
-    take (length (ps ++ p ∷ [])) ms' ≡ map (λ d. d.mark) (ps ++ p ∷ [])
-marks_more ms ms' ps qs p e old new =
-    let size : length qs ≡ length ps = ap length (drawn_plain ps qs e) ∙ length-map ps plain_of in
-    ap (λ n. take n ms') (length_push ps p ∙ ap (λ n. n + 1) (sym size))
-    ∙ new ∙ ap (λ n. take n ms ++ p.mark ∷ []) size ∙ ap (λ v. v ++ p.mark ∷ []) old ∙ sym (map_push (λ d. d.mark) ps p)

@@ -30,7 +30,7 @@ use Rattle.measure.specs.Layers.{barring, cornered, overlong}
 use Rattle.reducer.specs.Chains.{task}
 use Rattle.reducer.specs.Lent.{Lent, lent}
 use Rattle.reducer.specs.Reduced.{Done, reduced}
-use Rattle.job.specs.declared.found.Found.{Found}
+use Rattle.job.specs.declared.kept.Kept.{Kept}
 use Rattle.job.specs.Figures.{sum_figures, worst_figures, both_figures}
 
 abbrev pub plain_of : Dot → Point
@@ -70,10 +70,10 @@ own g = lent (replicate 512 0) (replicate 512 0) (replicate 512 g.start) (replic
 abbrev pub replied : {A : Type 0} → (A → Totals) → Done A → Answer
 replied figures d = elim d.says [ Ok x ↦ kept (figures x.total) (take x.count d.leaves.list) | Err t ↦ refused t ]
 
--- what the code's answer stands for, with what its list holds then
-abbrev pub spoken : Result Found Refusal → List ℕ → Answer
-spoken (Ok f) ls = kept f.totals (take f.count ls)
-spoken (Err e) ls = refused (told e)
+-- what the code's answer stands for
+abbrev pub spoken : Result Kept Refusal → Answer
+spoken (Ok k) = kept k.totals (take k.count k.list)
+spoken (Err e) = refused (told e)
 
 abbrev pub kept_by : {A : Type 0} → Ghosts A → (A → Totals) → Meaning → ℕ → List Point → Answer
 kept_by g figures m tolerance ps = replied figures (reduced (task g (m ps) tolerance) (length ps) (own g))

@@ -1,23 +1,22 @@
 // A lifted stroke reduced as an order asks, with tables and a list of the job's own.
-ghost use Rattle.std.specs.Prelude.{◌≡◌, ◌≤◌, length, replicate, IfOk};
+ghost use Rattle.std.specs.Prelude.{◌≡◌, replicate};
 ghost use Rattle.tray.specs.Trays.{stroke as stroke_of};
-ghost use Rattle.reducer.specs.Chains.{task};
-ghost use Rattle.reducer.specs.Lent.{lent};
-ghost use Rattle.reducer.specs.Reduced.{reduced};
-ghost use Rattle.job.specs.Answer.{spoken, replied, layered, over_span, answer_of};
+ghost use Rattle.page.specs.Codes.{coded};
+ghost use Rattle.job.specs.Answer.{spoken, kept_by, layered, over_span, answer_of};
 
 use crate::figures::Figures;
-use crate::found::Found;
+use crate::kept::Kept;
 use measure::area::Area;
 use measure::corners::Corners;
 use measure::distance::Distance;
 use measure::measure::Measure;
 use measure::span::Span;
 use measure::synchronous::Synchronous;
-use page::kinds::Order;
+use page::order::{KnownOrder, MeasureKind, TotalKind};
 use reducer::reduce::reduce;
 use total::sum::Sum;
 use total::sum_then_worst::SumThenWorst;
+use total::total::Total;
 use total::worst::Worst;
 use tray::causes::Refusal;
 use tray::tray::Lifted;
@@ -26,12 +25,11 @@ use tray::tray::Lifted;
 fn keep_by<M: Measure + Drop, T: Figures>(
     stroke: &Lifted,
     below: M,
-    order: Order,
+    order: KnownOrder,
     totals: &mut [T],
-    list: &mut [u16],
-) -> Result<Found, Refusal>
-    ensures says { spoken result list.new ≡ replied T.fields (reduced (task T.Total (over_span order.span (M.Measure.meaning below) (stroke_of stroke.now)) order.tolerance) (length (stroke_of stroke.now)) (lent (replicate 512 0) (replicate 512 0) totals.old list.old)) }
-    ensures fits { IfOk result (λ f. f.count ≤ length list.new) }
+) -> Result<Kept, Refusal>
+    requires { totals.old ≡ replicate 512 T.start }
+    ensures { spoken result ≡ kept_by T.Total T.fields (over_span order.span (M.Measure.meaning below)) order.tolerance (stroke_of stroke.now) }
 {
     let measure = Corners {
         below: Span {
@@ -41,6 +39,7 @@ fn keep_by<M: Measure + Drop, T: Figures>(
     };
     let mut counts = [0u16; 512];
     let mut preds = [0u16; 512];
+    let mut list = [0u16; 512];
     let answer = reduce(
         stroke,
         &measure,
@@ -48,45 +47,38 @@ fn keep_by<M: Measure + Drop, T: Figures>(
         &mut counts,
         &mut preds,
         totals,
-        list,
+        &mut list,
     )?;
-    Ok(Found {
-        count: answer.count,
+    Ok(Kept {
         totals: answer.total.figures(),
+        count: answer.count,
+        list,
     })
 }
 
 // By the measure that the order names.
 fn keep_as<T: Figures>(
     stroke: &Lifted,
-    order: Order,
+    order: KnownOrder,
     totals: &mut [T],
-    list: &mut [u16],
-) -> Result<Found, Refusal>
-    ensures says { spoken result list.new ≡ replied T.fields (reduced (task T.Total (layered order (stroke_of stroke.now)) order.tolerance) (length (stroke_of stroke.now)) (lent (replicate 512 0) (replicate 512 0) totals.old list.old)) }
-    ensures fits { IfOk result (λ f. f.count ≤ length list.new) }
+) -> Result<Kept, Refusal>
+    requires { totals.old ≡ replicate 512 T.start }
+    ensures { spoken result ≡ kept_by T.Total T.fields (layered (coded order)) order.tolerance (stroke_of stroke.now) }
 {
     match order.measure {
-        1 => keep_by(stroke, Synchronous, order, totals, list),
-        2 => keep_by(stroke, Distance, order, totals, list),
-        _ => keep_by(stroke, Area, order, totals, list),
+        MeasureKind::Synchronous => keep_by(stroke, Synchronous, order, totals),
+        MeasureKind::Distance => keep_by(stroke, Distance, order, totals),
+        MeasureKind::Area => keep_by(stroke, Area, order, totals),
     }
 }
 
-// By the kind of total that the order names.
-pub(crate) fn keep(stroke: &Lifted, order: Order, list: &mut [u16]) -> Result<Found, Refusal>
-    requires { list.old ≡ replicate 512 0 }
-    ensures says { spoken result list.new ≡ answer_of order (stroke_of stroke.now) }
-    ensures fits { IfOk result (λ f. f.count ≤ length list.new) }
+// By the kind of total that the order names. The table of totals is made here, where its type is known: nothing says that 512 values of a type parameter fit into memory.
+pub(crate) fn keep(stroke: &Lifted, order: KnownOrder) -> Result<Kept, Refusal>
+    ensures { spoken result ≡ answer_of (coded order) (stroke_of stroke.now) }
 {
     match order.total {
-        1 => keep_as(stroke, order, &mut [Sum { sum: 0 }; 512], list),
-        2 => keep_as(stroke, order, &mut [Worst { worst: 0 }; 512], list),
-        _ => keep_as(
-            stroke,
-            order,
-            &mut [SumThenWorst { sum: 0, worst: 0 }; 512],
-            list,
-        ),
+        TotalKind::Sum => keep_as(stroke, order, &mut [Sum::none(); 512]),
+        TotalKind::Worst => keep_as(stroke, order, &mut [Worst::none(); 512]),
+        TotalKind::SumThenWorst => keep_as(stroke, order, &mut [SumThenWorst::none(); 512]),
     }
 }

@@ -2,12 +2,10 @@
 #![tactic(auto)]
 
 pub mod answered;
-mod answers;
 pub mod figures;
-pub mod found;
-mod inner;
 pub mod job;
 mod keep;
+pub mod kept;
 mod marking;
 pub mod next;
 mod open;

@@ -11,11 +11,8 @@ fn mark_one(stroke: &mut Lifted, k: usize, mark: Mark)
     requires { k < 512 }
     ensures { stroke_of stroke.new ≡ marked_at mark (stroke_of stroke.old) k }
 {
-    match mark {
-        Mark::Plain => {}
-        Mark::Corner => {
-            let _ = stroke.mark(k as u16 + 1);
-        }
+    if mark == Mark::Corner {
+        let _ = stroke.mark(k as u16 + 1);
     }
 }
 
@@ -24,7 +21,7 @@ pub(crate) fn mark_corners(stroke: &mut Lifted, marks: &[Mark])
     requires { length marks.now ≤ 512 }
     ensures { stroke_of stroke.new ≡ cornered_by marks.now (stroke_of stroke.old) }
 {
-    for k in 0..marks.len() {
-        mark_one(stroke, k, marks[k]);
+    for (k, mark) in marks.iter().enumerate() {
+        mark_one(stroke, k, *mark);
     }
 }

@@ -38,29 +38,27 @@ impl<'a> Job<'a> {
     {
         let appended = self.count;
         let mut walk = self.walk;
-        let read = match read_stroke(&mut walk) {
-            Ok(read) => read,
-            Err(fault) => return Err(JobFault { appended, fault }),
-        };
+        let read = read_stroke(&mut walk).map_err(|fault| JobFault {
+            appended,
+            fault: StepFault::Page(fault),
+        })?;
         let Some(stroke) = read else {
             return Ok(None);
         };
         let answered = stroke.answer();
         let mut writer = self.writer;
-        match answered.append(&mut writer, answers) {
-            Ok(_) => {
-                *self = Job {
-                    walk,
-                    writer,
-                    count: appended + 1,
-                };
-                Ok(Some(answered))
-            }
-            Err(fault) => Err(JobFault {
+        answered
+            .append(&mut writer, answers)
+            .map_err(|fault| JobFault {
                 appended,
                 fault: StepFault::Answers(fault),
-            }),
-        }
+            })?;
+        *self = Job {
+            walk,
+            writer,
+            count: appended + 1,
+        };
+        Ok(Some(answered))
     }
 }
 
@@ -75,10 +73,6 @@ pub fn run(page: &[u8], answers: &mut [u8]) -> Result<usize, JobFault>
     ensures lawful { KeepsTheLaw }
 {
     let mut job = Job::new(page);
-    loop {
-        let answered = job.next(answers)?;
-        if answered.is_none() {
-            return Ok(job.count);
-        }
-    }
+    while job.next(answers)?.is_some() {}
+    Ok(job.count)
 }

@@ -1,6 +1,8 @@
 // The stroke whose records are being read.
 ghost use Rattle.std.specs.Prelude.{◌≡◌, length};
+ghost use Rattle.tray.specs.Trays.{writing};
 
+use arrayvec::ArrayVec;
 use tray::causes::Refusal;
 use tray::point::Mark;
 use tray::tray::Writing;
@@ -9,7 +11,7 @@ use tray::tray::Writing;
 #[derive(Drop)]
 pub(crate) struct OpenStroke {
     pub(crate) tray: Writing,
-    pub(crate) marks: [Mark; 512],
-    pub(crate) refused: Option<Refusal>,
-    ghost whole: { length marks ≡ 512 },
+    pub(crate) marks: ArrayVec<Mark, 512>,
+    pub(crate) drawn: Result<(), Refusal>,
+    ghost paired: { length marks.items ≡ length (writing tray).points },
 }

@@ -1,32 +1,32 @@
 // The points of an open stroke, put on its tray one by one.
-ghost use Rattle.std.specs.Prelude.{◌≡◌, ◌+◌, ◌≤◌, List, [], ◌∷◌, ◌++◌, map, length, take, replicate, IfOk, None, Ok};
+ghost use Rattle.std.specs.Prelude.{◌≡◌, List, [], ◌∷◌, ◌++◌, map, length, Ok, OnOk};
 ghost use Rattle.tray.specs.Trays.{writing};
+ghost use Rattle.page.specs.Codes.{coded};
 ghost use Rattle.page.specs.declared.kinds.Point.{Point as Dot};
 ghost use Rattle.job.specs.Answer.{drawn_with, drawing, point_of, answer_of, if_drawn, spoken};
 ghost use Rattle.job.specs.Open.{put_or, Holds};
 
-use crate::found::Found;
 use crate::keep::keep;
+use crate::kept::Kept;
 use crate::marking::mark_corners;
 use crate::open::OpenStroke;
-use page::kinds::{Order, Point};
+use arrayvec::ArrayVec;
+use page::kinds::Point;
+use page::order::KnownOrder;
 use tray::causes::Refusal;
 use tray::point::Mark;
 use tray::tray::Writing;
 
-// Puts a point on the tray and notes its mark, or tells why the put was refused.
-fn put_point(tray: &mut Writing, marks: &mut [Mark], p: Point) -> Option<Refusal>
-    requires { length marks.old ≡ 512 }
+// Puts a point on the tray and notes its mark, or refuses and changes nothing.
+fn put_point(tray: &mut Writing, marks: &mut ArrayVec<Mark, 512>, p: Point) -> Result<(), Refusal>
+    requires { length marks.old.items ≡ length (writing tray.old).points }
     ensures puts { put_or result (writing tray.new).points ≡ drawn_with (Ok (writing tray.old).points) p }
-    ensures notes { result ≡ None → take (length (writing tray.old).points + 1) marks.new ≡ take (length (writing tray.old).points) marks.old ++ p.mark ∷ [] }
+    ensures notes { OnOk result (marks.new.items ≡ marks.old.items ++ p.mark ∷ []) }
+    ensures paired { length marks.new.items ≡ length (writing tray.new).points }
 {
-    match tray.put(i32::from(p.x), i32::from(p.y), p.t) {
-        Ok(number) => {
-            marks[number as usize - 1] = p.mark;
-            None
-        }
-        Err(refusal) => Some(refusal),
-    }
+    tray.put(i32::from(p.x), i32::from(p.y), p.t)?;
+    marks.push(p.mark);
+    Ok(())
 }
 
 impl OpenStroke {
@@ -36,8 +36,8 @@ impl OpenStroke {
     {
         OpenStroke {
             tray: Writing::new(),
-            marks: [Mark::Plain; 512],
-            refused: None,
+            marks: ArrayVec::new(),
+            drawn: Ok(()),
         }
     }
 
@@ -45,30 +45,19 @@ impl OpenStroke {
     pub(crate) fn point(&mut self, p: Point)
         ensures { (ps : List Dot) → Holds self.old ps → Holds self.new (ps ++ p ∷ []) }
     {
-        if self.refused.is_none() {
-            self.refused = put_point(&mut self.tray, &mut self.marks, p);
+        if self.drawn.is_ok() {
+            self.drawn = put_point(&mut self.tray, &mut self.marks, p);
         }
     }
 
     // The answer of the stroke: its first refused put, or what is kept of it once it is lifted and its corners are marked.
-    pub(crate) fn finish(self, order: Order, list: &mut [u16]) -> Result<Found, Refusal>
-        requires { list.old ≡ replicate 512 0 }
-        ensures says { (ps : List Dot) → Holds self ps → spoken result list.new ≡ if_drawn (drawing ps) (answer_of order (map point_of ps)) }
-        ensures fits { IfOk result (λ f. f.count ≤ length list.new) }
+    pub(crate) fn finish(self, order: KnownOrder) -> Result<Kept, Refusal>
+        ensures { (ps : List Dot) → Holds self ps → spoken result ≡ if_drawn (drawing ps) (answer_of (coded order) (map point_of ps)) }
     {
-        let OpenStroke {
-            tray,
-            marks,
-            refused,
-        } = self;
-        match refused {
-            Some(refusal) => Err(refusal),
-            None => {
-                let mut stroke = tray.lift();
-                let n = stroke.points().len();
-                mark_corners(&mut stroke, &marks[0..n]);
-                keep(&stroke, order, list)
-            }
-        }
+        let OpenStroke { tray, marks, drawn } = self;
+        drawn?;
+        let mut stroke = tray.lift();
+        mark_corners(&mut stroke, marks.as_slice());
+        keep(&stroke, order)
     }
 }

@@ -1,8 +1,9 @@
 // One point of a stroke.
 
 // A corner is a point that no chord may pass over where corners are minded; every other point is plain.
-#[derive(Clone, Copy, Debug, PartialEq, Eq)]
+#[derive(Clone, Copy, Debug, Default, PartialEq, Eq)]
 pub enum Mark {
+    #[default]
     Plain,
     Corner,
 }

@@ -5,47 +5,39 @@ use Rattle.page.specs.Fits.{Byte}
 use Rattle.page.specs.Steps.{reading}
 use Rattle.job.specs.Jobs.{to_read, RunSide}
 use Rattle.job.proofs.Answerings.{holds_the_answers, own_records_alone}
-use Rattle.job.proofs.EachKind.{never_8_or_10}
 use Rattle.job.proofs.Fitting.{fits_the_page}
-use Rattle.job.proofs.Keeping.{keeps_the_law}
 use Rattle.job.proofs.Nexts.{leaves_on, stops_on_side}
 use Rattle.job.proofs.next.run.Goals as goal
 
-pub loop-answered-preserved : goal.loop-answered-preserved
-loop-answered-preserved c =
-    let j = c.loop-answered.job in (
+pub loop-preserved : goal.loop-preserved
+loop-preserved c =
+    let j = c.loop.job in (
       search rules,
-      leaves_on (reading c.args.page.now).strokes _ (to_read j).ending j.count j.writer.used c.loop-answered.answers c.next.new.self c.next.new.answers c.loop-answered.invariant.1 c.in_ok-answered.answered c.if-is_none.ensures c.in_ok-answered.ensures.next,
+      leaves_on (reading c.args.page.now).strokes _ (to_read j).ending j.count j.writer.used c.loop.answers c.next.new.self c.next.new.answers c.loop.invariant.1 c.in_ok-next.field-0 (sym c.if-is_some.ensures) c.in_ok-next.ensures.next,
     )
 
-pub returns-in_err-answered : goal.returns-in_err-answered
-returns-in_err-answered c =
+pub returns-in_err-next-clause-side : goal.returns-in_err-next-clause-side
+returns-in_err-next-clause-side c =
     let bs = c.args.page.now in
-    let out = c.args.answers.now in
-    let j = c.loop-answered.job in
-    let f = c.in_err-answered.field-0.0 in
+    let j = c.loop.job in
+    let f = c.in_err-next.field-0.0 in
     let told : c.from_residual.result ≡ Err f = search rules in
-    record {
-      outcome = search rules;
-      side =
-          subst (RunSide (reading bs).strokes) (sym told) (stops_on_side (reading bs).strokes _ (to_read j).ending j.count j.writer.used c.loop-answered.answers c.next.new.self c.next.new.answers c.loop-answered.invariant.1 f c.in_err-answered.ensures.side c.in_err-answered.ensures.next);
-      fits = fits_the_page bs out (All-from_get_or Byte bs 0 (λ i _. (c.type_inv.page i).fits));
-      holds = holds_the_answers bs out;
-      alone = own_records_alone;
-      roomy = never_8_or_10;
-      lawful = keeps_the_law;
-    }
+    subst (RunSide (reading bs).strokes) (sym told) (stops_on_side (reading bs).strokes _ (to_read j).ending j.count j.writer.used c.loop.answers c.next.new.self c.next.new.answers c.loop.invariant.1 f c.in_err-next.ensures.side c.in_err-next.ensures.next)
 
-pub returns-then-is_none : goal.returns-then-is_none
-returns-then-is_none c =
-    let bs = c.args.page.now in
-    let out = c.args.answers.now in
-    record {
-      outcome = search rules;
-      side = search rules;
-      fits = fits_the_page bs out (All-from_get_or Byte bs 0 (λ i _. (c.type_inv.page i).fits));
-      holds = holds_the_answers bs out;
-      alone = own_records_alone;
-      roomy = never_8_or_10;
-      lawful = keeps_the_law;
-    }
+pub returns-in_err-next-clause-fits : goal.returns-in_err-next-clause-fits
+returns-in_err-next-clause-fits c = let bs = c.args.page.now in fits_the_page bs c.args.answers.now (All-from_get_or Byte bs 0 (λ i _. (c.type_inv.page i).fits))
+
+pub returns-in_err-next-clause-holds : goal.returns-in_err-next-clause-holds
+returns-in_err-next-clause-holds c = holds_the_answers c.args.page.now c.args.answers.now
+
+pub returns-in_err-next-clause-alone : goal.returns-in_err-next-clause-alone
+returns-in_err-next-clause-alone c = own_records_alone
+
+pub returns-clause-fits : goal.returns-clause-fits
+returns-clause-fits c = let bs = c.args.page.now in fits_the_page bs c.args.answers.now (All-from_get_or Byte bs 0 (λ i _. (c.type_inv.page i).fits))
+
+pub returns-clause-holds : goal.returns-clause-holds
+returns-clause-holds c = holds_the_answers c.args.page.now c.args.answers.now
+
+pub returns-clause-alone : goal.returns-clause-alone
+returns-clause-alone c = own_records_alone

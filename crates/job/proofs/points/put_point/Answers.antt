@@ -1,19 +1,33 @@
-use Rattle.std.proofs.Common.{◌≡◌, ◌-◌, length, Ok, arith, rules}
-use Rattle.tray.specs.Machine.{put_says}
+-- The points and their marks stay as many, whether the put is answered or refused.
+use Rattle.std.proofs.Common.{◌≡◌, ◌+◌, length, Ok, Err, sym, ap, ◌∙◌, arith, rules}
+use Rattle.std.proofs.lemmas.List.{length_push}
+use Rattle.tray.specs.Machine.{plain, put_says, put_after}
+use Rattle.tray.specs.Refusals.{told}
 use Rattle.tray.specs.Trays.{writing}
-use Rattle.job.proofs.Puts.{added, noted}
+use Rattle.job.proofs.Puts.{added, refused_put}
 use Rattle.job.proofs.points.put_point.Goals as goal
 
-pub says : (c : goal.In-Ok) → Ok c.in-Ok.number ≡ put_says (writing c.args.tray.now).points c.args.p.x c.args.p.y c.args.p.t
-says c = search rules
+pub returns-in_err-put-clause-paired : goal.returns-in_err-put-clause-paired
+returns-in_err-put-clause-paired c =
+    let p = c.args.p in
+    let ps = (writing c.args.tray.now).points in
+    let says : Err (told c.in_err-put.field-0.0) ≡ put_says ps p.x p.y p.t = search rules in
+    let after : (writing c.put.new.self).points ≡ put_after ps p.x p.y p.t = search rules in
+    c.requires ∙ sym (ap length (after ∙ refused_put ps p.x p.y p.t _ says))
 
-pub overflow_sub-number : goal.overflow_sub-number
-overflow_sub-number c = let a = added _ _ _ _ _ (says c) in omega (arith, a.number)
+pub push-requires : goal.push-requires
+push-requires c =
+    let p = c.args.p in
+    let ps = (writing c.args.tray.now).points in
+    let says : Ok c.in_ok-put.field-0 ≡ put_says ps p.x p.y p.t = search rules in
+    let a = added _ _ _ _ _ says in
+    (omega arith, omega (arith, a.room, c.requires))
 
-pub bounds-marks-number : goal.bounds-marks-number
-bounds-marks-number c = let a = added _ _ _ _ _ (says c) in omega (arith, a.number, a.room, c.requires)
-
-pub returns-in-Ok : goal.returns-in-Ok
-returns-in-Ok c =
-    let a = added _ _ _ _ _ (says c) in
-    record { puts = search rules; notes = λ e. noted c.args.marks.now (length (writing c.args.tray.now).points) (c.in-Ok.number - 1) c.args.p.mark (omega (arith, a.number)) (omega (arith, a.room, c.requires)) }
+pub returns-clause-paired : goal.returns-clause-paired
+returns-clause-paired c =
+    let p = c.args.p in
+    let ps = (writing c.args.tray.now).points in
+    let says : Ok c.in_ok-put.field-0 ≡ put_says ps p.x p.y p.t = search rules in
+    let a = added _ _ _ _ _ says in
+    let after : (writing c.put.new.self).points ≡ put_after ps p.x p.y p.t = search rules in
+    ap length c.push.ensures.items ∙ length_push c.args.marks.now.items p.mark ∙ ap (λ n. n + 1) c.requires ∙ sym (length_push ps (plain p.x p.y p.t)) ∙ sym (ap length (after ∙ a.after))

@@ -1,4 +1,5 @@
 use Rattle.std.proofs.Common.{◌≡◌, ℕ, ◌<◌, [], length, Ok, Option, refl, ◌∙◌, subst, arith}
+use Rattle.page.specs.Codes.{coded}
 use Rattle.page.specs.Strokes.{stroke_of}
 use Rattle.job.specs.Reads.{begun, Fewer}
 use Rattle.job.specs.Whole.{left, from_within}
@@ -15,8 +16,7 @@ returns c =
     let fewer : length v.rest.now < length w.rest.now = subst F c.in-Some.is c.in_ok-number.ensures.falls in
     let h = c.in_ok-order.ensures.reads [] c.new-open.ensures in
     record {
-      reads = record { stroke = stroke_of n h.0 c.in_ok-order.order; held = record { number = refl; points = h.1.0; order = refl }; is = begins ∙ h.1.1 n };
+      reads = record { stroke = stroke_of n h.0 (coded c.in_ok-order.order); held = record { number = refl; points = h.1.0; order = refl }; is = begins ∙ h.1.1 n };
       part = c.in_ok-order.ensures.part;
-      source = tt;
       falls = omega (arith, fewer, c.in_ok-order.ensures.falls);
     }

@@ -1,8 +1,9 @@
+use Rattle.std.proofs.Common.{sym}
 use Rattle.job.proofs.Opens.{holds_more, holds_read}
 use Rattle.job.proofs.open.OpenStroke.point.Goals as goal
 
-pub returns-then-is_none : goal.returns-then-is_none
-returns-then-is_none c = holds_more c.args.self.now _ c.args.p c.if-is_none.ensures c.put_point-self.ensures.puts c.put_point-self.ensures.notes
+pub returns-then-is_ok : goal.returns-then-is_ok
+returns-then-is_ok c = holds_more c.args.self.now _ c.args.p (sym c.if-is_ok.ensures.value) c.put_point-self.ensures.puts c.put_point-self.ensures.notes
 
-pub returns-else-is_none : goal.returns-else-is_none
-returns-else-is_none c = holds_read c.args.self.now c.args.p c.if-is_none.ensures
+pub returns-else-is_ok : goal.returns-else-is_ok
+returns-else-is_ok c = holds_read c.args.self.now c.args.p (sym c.if-is_ok.ensures.value)
