@@ -1,8 +1,8 @@
 -- Every history keeps the limits, and a put is taken exactly where they would still hold.
-use Rattle.std.proofs.Common.{◌≡◌, ℕ, ◌+◌, ◌-◌, ◌<◌, ◌≤◌, true, false, ◌&&◌, ltb, leb, ◌⊎◌, List, [], ◌∷◌, ◌++◌, length, ℤ, is_ok, sym, refl, ap, ◌∙◌, subst, inl, inr, arith}
+use Rattle.std.proofs.Common.{◌≡◌, ℕ, ◌+◌, ◌-◌, ◌<◌, ◌≤◌, true, false, ◌⊎◌, List, [], ◌∷◌, ◌++◌, length, ℤ, is_ok, sym, refl, ap, ◌∙◌, subst, inl, inr, arith}
 use borrow.Author.Differences.{ints}
 use Rattle.std.proofs.lemmas.List.{get_or_append_left, get_or_push, length_push}
-use Rattle.std.proofs.lemmas.Bool.{cases_eq, cases_Bool, ltb-false, leb-false, lt-ltb, both_ways}
+use Rattle.std.proofs.lemmas.Bool.{cases_eq, cases_Bool, both_ways}
 use Rattle.std.proofs.lemmas.Bool.Decides.{nat_tests}
 use Rattle.tray.specs.declared.point.Point.{Point}
 use Rattle.tray.specs.declared.point.Mark.{Mark}
@@ -32,16 +32,16 @@ module _ (ps : List Point) (vx vy : ℤ) (vt : ℕ) where
 
   -- the last time is below the new one, and the new one is not late
   after_last : stopped ps vt ≡ false → 0 < length ps → (at ps (length ps - 1)).t < vt
-  after_last e l = leb-false vt _ (sym (ap (λ b. b && leb vt (at ps (length ps - 1)).t) (lt-ltb 0 (length ps) l)) ∙ e)
+  after_last e l = grind (arith, nat_tests)
 
   in_time : late ps vt ≡ false → 0 < length ps → vt ≤ (at ps 0).t + 8191
-  in_time e l = ltb-false _ vt (sym (ap (λ b. b && ltb ((at ps 0).t + 8191) vt) (lt-ltb 0 (length ps) l)) ∙ e)
+  in_time e l = grind (arith, nat_tests)
 
   pub pushed : Lawful ps → off_sheet vx vy ≡ false → stopped ps vt ≡ false → late ps vt ≡ false → full ps ≡ false → Lawful qs
   pushed w e f g h =
       let n : length qs ≡ length ps + 1 = length_push ps p in
       record {
-        few = let r : length ps < 512 = leb-false 512 (length ps) h in omega arith;
+        few = grind (arith, nat_tests);
         placed = λ k l. elim (cases_eq k (length ps)) [
           | inl z ↦ rw (z, newest) (grind (arith, ints), grind (arith, ints), grind (arith, ints), grind (arith, ints))
           | inr z ↦ let i : k < length ps = omega arith in rw (old k i) (w.placed k i)
