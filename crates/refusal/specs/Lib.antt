@@ -1,2 +1,3 @@
 -- The definitions that the contracts cite, each file after those it uses.
 pub mod Said
+pub mod Texts

@@ -4,6 +4,7 @@ ghost use Rattle.total.specs.Pairs.{better};
 
 use crate::total::Total;
 
+// No `Ord`: the laws of a kind order only the totals that chains have, and `Ord` would ask an order of all values of every kind.
 #[derive(Clone, Copy)]
 pub struct Pair<T> {
     pub chords: u16,

@@ -4,7 +4,7 @@ ghost use Rattle.total.specs.SumLaws.{sum_laws};
 
 use crate::total::Total;
 
-#[derive(Clone, Copy, Debug, PartialEq, Eq)]
+#[derive(Clone, Copy, Debug, PartialEq, Eq, PartialOrd, Ord)]
 pub struct Sum {
     pub sum: u64,
 }
@@ -35,6 +35,6 @@ impl Total for Sum {
     }
 
     fn at_most(self, other: Sum) -> bool {
-        self.sum <= other.sum
+        self <= other
     }
 }

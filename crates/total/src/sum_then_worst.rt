@@ -4,7 +4,8 @@ ghost use Rattle.total.specs.BothLaws.{both_laws};
 
 use crate::total::Total;
 
-#[derive(Clone, Copy, Debug, PartialEq, Eq)]
+// The fields stand in the order in which two totals are compared.
+#[derive(Clone, Copy, Debug, PartialEq, Eq, PartialOrd, Ord)]
 pub struct SumThenWorst {
     pub sum: u64,
     pub worst: u64,
@@ -40,6 +41,6 @@ impl Total for SumThenWorst {
     }
 
     fn at_most(self, other: SumThenWorst) -> bool {
-        self.sum < other.sum || (self.sum == other.sum && self.worst <= other.worst)
+        self <= other
     }
 }

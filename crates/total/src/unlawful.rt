@@ -2,6 +2,7 @@
 ghost use Rattle.total.specs.Unlawful.{WorstFirstIsUnlawful};
 
 // The greatest error first and then the sum is no lawful kind: joined with the same total, two totals can change places.
+#[tactic(auto, using(crate::proofs::Unlawfuls::worst_first_is_unlawful))]
 pub fn worst_first_is_unlawful() -> u8
     ensures { WorstFirstIsUnlawful }
 {

@@ -4,7 +4,7 @@ ghost use Rattle.total.specs.WorstLaws.{worst_laws};
 
 use crate::total::Total;
 
-#[derive(Clone, Copy, Debug, PartialEq, Eq)]
+#[derive(Clone, Copy, Debug, PartialEq, Eq, PartialOrd, Ord)]
 pub struct Worst {
     pub worst: u64,
 }
@@ -35,6 +35,6 @@ impl Total for Worst {
     }
 
     fn at_most(self, other: Worst) -> bool {
-        self.worst <= other.worst
+        self <= other
     }
 }

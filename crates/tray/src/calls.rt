@@ -45,15 +45,14 @@ impl Writing {
     pub fn lift(self) -> Lifted
         ensures steps { lifted result ≡ step (writing self) calls_lift }
     {
-        let Writing { table } = self;
-        Lifted { table }
+        Lifted { table: self.table }
     }
 
     // A bare tray, with the pen down.
     pub fn clear(self) -> Writing
         ensures steps { writing result ≡ step (writing self) calls_clear }
     {
-        Writing::new()
+        Self::new()
     }
 }
 
@@ -78,8 +77,7 @@ impl Lifted {
     pub fn clear(self) -> Writing
         ensures steps { writing result ≡ step (lifted self) calls_clear }
     {
-        let blank = Table::new();
-        Writing { table: blank }
+        Writing::new()
     }
 
     // The points of the stroke, in their order.
@@ -87,6 +85,6 @@ impl Lifted {
         ensures value { result.now ≡ stroke self.now }
         ensures lawful { Lawful result.now }
     {
-        &self.table.points[0..self.table.len]
+        self.table.points.as_slice()
     }
 }

@@ -19,17 +19,28 @@ pub enum Refusal {
     ShortList(u16),
 }
 
-// A refusal by the tray, with its number and its place.
-fn at(number: u16, place: u16) -> Told
-    ensures number { result.number ≡ number }
-    ensures place { result.place ≡ place }
-    ensures near { result.place < 65536 }
-    ensures layer { result.layer ≡ Layer.Tray }
-{
-    Told {
-        number,
-        place: place as usize,
-        layer: Layer::Tray,
+// The number and the place of the cause, and the layer of the tray.
+impl From<Refusal> for Told {
+    ghost from_gives = { λ refusal told. (told ≡ told_of refusal) × (told.place < 65536) };
+
+    fn from(refusal: Refusal) -> Told {
+        let (number, place) = match refusal {
+            Refusal::OffSheet(place) => (1, place),
+            Refusal::StoppedClock(place) => (2, place),
+            Refusal::LongStroke(place) => (3, place),
+            Refusal::FullTray => (4, 513),
+            Refusal::BareTray => (5, 0),
+            Refusal::NoSuchPoint(place) => (6, place),
+            Refusal::WideTolerance => (7, 0),
+            Refusal::ShortTable(place) => (8, place),
+            Refusal::NoWay(place) => (9, place),
+            Refusal::ShortList(place) => (10, place),
+        };
+        Told {
+            number,
+            place: usize::from(place),
+            layer: Layer::Tray,
+        }
     }
 }
 
@@ -39,17 +50,6 @@ impl Refusal {
         ensures value { result ≡ told_of self }
         ensures near { result.place < 65536 }
     {
-        match self {
-            Refusal::OffSheet(place) => at(1, place),
-            Refusal::StoppedClock(place) => at(2, place),
-            Refusal::LongStroke(place) => at(3, place),
-            Refusal::FullTray => at(4, 513),
-            Refusal::BareTray => at(5, 0),
-            Refusal::NoSuchPoint(place) => at(6, place),
-            Refusal::WideTolerance => at(7, 0),
-            Refusal::ShortTable(place) => at(8, place),
-            Refusal::NoWay(place) => at(9, place),
-            Refusal::ShortList(place) => at(10, place),
-        }
+        Told::from(self)
     }
 }

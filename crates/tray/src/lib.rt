@@ -5,5 +5,5 @@ pub mod calls;
 pub mod causes;
 pub mod point;
 mod steps;
-pub mod table;
+mod table;
 pub mod tray;

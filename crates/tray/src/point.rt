@@ -9,7 +9,7 @@ pub enum Mark {
 }
 
 // A place x and y in font units, a time t in ticks, and a mark.
-#[derive(Clone, Copy, Debug, PartialEq, Eq)]
+#[derive(Clone, Copy, Debug, Default, PartialEq, Eq)]
 pub struct Point {
     pub x: i32,
     pub y: i32,
