@@ -1,16 +1,15 @@
 // The distance measure: the greatest squared distance from a point to the segment that a chord draws.
 ghost use Rattle.std.specs.Prelude.{◌≡◌, ◌<◌, max};
-ghost use Rattle.tray.specs.Stroke.{Lawful};
 ghost use Rattle.tray.specs.Trays.{stroke as stroke_of};
-ghost use Rattle.measure.specs.Chords.{On, Chord};
+ghost use Rattle.measure.specs.Chords.{Within};
 ghost use Rattle.measure.specs.Distance.{distance, distance_error, LeastDistance};
 ghost use Rattle.measure.specs.Sides.{sided, risen};
 ghost use Rattle.measure.specs.Offs.{distance_limit};
 ghost use Rattle.measure.specs.Answered.{bare_limited, bare_within};
 
-use crate::arith::{cross_of, dot_of};
-use crate::chord::is_chord;
+use crate::chord::Chord;
 use crate::measure::Measure;
+use crate::offset::Offset;
 use tray::point::Point;
 use tray::tray::Lifted;
 
@@ -27,18 +26,19 @@ pub(crate) enum Side {
 
 // Where k stands beside the segment from p to q.
 fn side_of(p: Point, q: Point, k: Point) -> Side
-    requires p { On p }
-    requires q { On q }
-    requires k { On k }
+    requires { Within p q k }
     ensures { result ≡ sided p q k }
 {
-    let s = dot_of(p, k, q);
+    let whole = Offset::between(p, q);
+    let part = Offset::between(p, k);
+    let s = part.dot(whole);
     if s <= 0 {
-        Side::Past(dot_of(p, k, k).unsigned_abs())
-    } else if s >= dot_of(p, q, q) {
-        Side::Past(dot_of(q, k, k).unsigned_abs())
+        Side::Past(part.dot(part).unsigned_abs())
+    } else if s >= whole.dot(whole) {
+        let rest = Offset::between(q, k);
+        Side::Past(rest.dot(rest).unsigned_abs())
     } else {
-        Side::Along(cross_of(p, q, k).unsigned_abs())
+        Side::Along(whole.cross(part).unsigned_abs())
     }
 }
 
@@ -54,23 +54,22 @@ fn settled(past: u32, along: u32, whole: u32) -> u64
     (past as u64).max((c * c).div_ceil(whole as u64))
 }
 
-// The greatest squared distance from a point between i and j to the segment, rounded up.
-fn distance_of(points: &[Point], i: usize, j: usize) -> u64
-    requires lawful { Lawful points.now }
-    requires chord { Chord points.now i j }
-    ensures { result ≡ distance_error points.now i j }
+// The greatest squared distance from a point between the ends of a chord to its segment, rounded up.
+fn distance_of(chord: &Chord) -> u64
+    ensures { result ≡ distance_error chord.now.points.now chord.now.from chord.now.to }
 {
-    let p = points[i - 1];
-    let q = points[j - 1];
+    let p = chord.start();
+    let q = chord.end();
     let mut past: u32 = 0;
     let mut along: u32 = 0;
-    for k in &points[i..j - 1] {
+    for k in chord.between() {
         match side_of(p, q, *k) {
             Side::Past(d) => past = past.max(d),
             Side::Along(c) => along = along.max(c),
         }
     }
-    settled(past, along, dot_of(p, q, q).unsigned_abs())
+    let whole = Offset::between(p, q);
+    settled(past, along, whole.dot(whole).unsigned_abs())
 }
 
 impl Measure for Distance {
@@ -85,11 +84,7 @@ impl Measure for Distance {
         ensures value { result ≡ distance (stroke_of stroke.now) i j }
         ensures least { LeastDistance (stroke_of stroke.now) i j result }
     {
-        let points = stroke.points();
-        if is_chord(points, i, j) {
-            Some(distance_of(points, i, j))
-        } else {
-            None
-        }
+        let chord = Chord::of(stroke, i, j)?;
+        Some(distance_of(&chord))
     }
 }

@@ -2,11 +2,11 @@
 #![tactic(auto)]
 
 pub mod area;
-mod arith;
 mod chord;
 pub mod corners;
 pub mod distance;
 pub mod measure;
+mod offset;
 pub mod span;
 pub mod synchronous;
 pub mod worked;

@@ -2,7 +2,7 @@
 ghost use Rattle.measure.specs.Layers.{barring, overlong};
 ghost use Rattle.measure.specs.Answered.{passed_on};
 
-use crate::chord::is_chord;
+use crate::chord::Chord;
 use crate::measure::Measure;
 use tray::tray::Lifted;
 
@@ -20,11 +20,8 @@ impl<M: Measure> Measure for Span<M> {
     ghost within = { λ m ps i j e q. M.Measure.within m.below ps i j e (passed_on _ _ e q) };
 
     fn error(&self, stroke: &Lifted, i: usize, j: usize) -> Option<u64> {
-        let points = stroke.points();
-        if !is_chord(points, i, j) {
-            return None;
-        }
-        if points[j - 1].t - points[i - 1].t > self.span {
+        let chord = Chord::of(stroke, i, j)?;
+        if chord.lasting() > self.span {
             return None;
         }
         self.below.error(stroke, i, j)
