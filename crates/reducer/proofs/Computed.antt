@@ -18,7 +18,6 @@ use Rattle.reducer.proofs.Optimal.{Sound, entry_cut}
 use Rattle.reducer.proofs.Walks.{walked}
 use Rattle.reducer.proofs.Rights.{chain_points}
 use Rattle.reducer.proofs.Filled.{entries_length, filled_entries}
-use Rattle.reducer.proofs.Equals.{way}
 
 -- a reduce that says and leaves what is computed, with its outcome
 pub record Computed {A : Type 0} (k : Task A) (n : ℕ) (b : Lent A) (d : Done A) : Type 0 where
@@ -27,10 +26,10 @@ pub record Computed {A : Type 0} (k : Task A) (n : ℕ) (b : Lent A) (d : Done A
   pub is : done (says result) left ≡ d
   pub outcome : Outcome k n b left result
 
-untight : (n c p t : ℕ) → (ltb c n || (ltb p n || ltb t n)) ≡ false → (n ≤ c) × (n ≤ p) × (n ≤ t)
+pub untight : (n c p t : ℕ) → (ltb c n || (ltb p n || ltb t n)) ≡ false → (n ≤ c) × (n ≤ p) × (n ≤ t)
 untight n c p t h = (grind (arith, nat_tests), grind (arith, nat_tests), grind (arith, nat_tests))
 
-tighten : (n c p t : ℕ) → (ltb c n || (ltb p n || ltb t n)) ≡ true → (c < n) ⊎ ((p < n) ⊎ (t < n))
+pub tighten : (n c p t : ℕ) → (ltb c n || (ltb p n || ltb t n)) ≡ true → (c < n) ⊎ ((p < n) ⊎ (t < n))
 tighten n c p t h = grind (arith, nat_tests)
 
 some : (n : ℕ) → eqb n 0 ≡ false → 1 ≤ n
@@ -67,7 +66,7 @@ module _ {A : Type 0} (k : Task A) (n : ℕ) (ok : Sound k n) (b : Lent A) (low 
   walk_back f =
       let es = entries k n in
       let size : n ≤ length (preds_of es) = rw (length-map es (λ s. s.from), entries_length k n) (omega arith) in
-      (walked k n ok (counts_of es) (preds_of es) (totals_of es) size (filled_entries k n ok n) n refl low (way n (chords k n) low f)).1
+      (walked k n ok (counts_of es) (preds_of es) (totals_of es) size (filled_entries k n ok n) n refl low f).1
 
   kept_length : (f : reached n (chords k n) ≡ true) → length (kept_list k n) ≡ needed k n
   kept_length f = let q = walk_back f in let p = chain_points q.lawful in let c = q.chords in omega arith

@@ -40,9 +40,6 @@ tight n c p t h = grind (arith, nat_tests)
 too_long : (m n : ℕ) → n < m → leb m n ≡ false
 too_long m n h = grind (arith, nat_tests)
 
-pub way : (n c : ℕ) → 1 ≤ n → reached n c ≡ true → ((1 < n) × (c ≡ 0 → ⊥)) ⊎ (n ≤ 1)
-way n c h e = grind (arith, nat_tests)
-
 same_lent : {A : Type 0} (cs cs' ps ps' ls ls' : List ℕ) (ts ts' : List A) → cs ≡ cs' → ps ≡ ps' → ts ≡ ts' → ls ≡ ls' → lent cs ps ts ls ≡ lent cs' ps' ts' ls'
 same_lent cs cs' ps ps' ls ls' ts ts' a b c d = cc
 
@@ -91,7 +88,7 @@ module _ {A : Type 0} (k : Task A) (n : ℕ) (ok : Sound k n) (b a : Lent A) (s 
     same_list =
         let es = entries k n in
         let size : n ≤ length (preds_of es) = rw (length-map es (λ s. s.from), entries_length k n) (omega arith) in
-        let w = walked k n ok (counts_of es) (preds_of es) (totals_of es) size (filled_entries k n ok n) n refl s.some (way n (chords k n) s.some flag) in
+        let w = walked k n ok (counts_of es) (preds_of es) (totals_of es) size (filled_entries k n ok n) n refl s.some flag in
         kept_unique k n ok refl q.kept w.1.kept
 
   -- no chain

@@ -3,7 +3,7 @@ use Rattle.std.proofs.Common.{◌≡◌, ℕ, zero, suc, ◌+◌, ◌-◌, ◌<�
 use Rattle.std.proofs.lemmas.List.{length_push, length-map, map_push, get_or_push, get_or_append_left, ext_get_or, get_or-take, length-take-le}
 use Rattle.std.proofs.lemmas.Bool.{cases_lt}
 use Rattle.reducer.specs.declared.step.Step.{Step}
-use Rattle.reducer.specs.Chains.{Task, Entry, origin, Filled}
+use Rattle.reducer.specs.Chains.{Task, Entry, Filled}
 use Rattle.reducer.specs.Reduced.{entries, entry, counts_of, preds_of, totals_of}
 use Rattle.reducer.proofs.Optimal.{Sound, next}
 use Rattle.reducer.proofs.Unique.{entry_unique}
@@ -24,10 +24,9 @@ module _ {A : Type 0} (k : Task A) where
   module _ (n : ℕ) (ok : Sound k n) where
     entry_is : (j : ℕ) → Filled k j (counts_of (entries k j)) (preds_of (entries k j)) (totals_of (entries k j)) →
         let s = entry k (suc j) (entries k j) in Entry k (suc j) s.pair.chords s.from s.pair.total
-    entry_is zero h = origin refl refl refl refl
-    entry_is (suc j) h =
-        next k n ok (counts_of (entries k (suc j))) (preds_of (entries k (suc j))) (totals_of (entries k (suc j))) (suc (suc j)) (omega arith)
-        (let P : ℕ → Type 0 = λ m. Filled k m (counts_of (entries k (suc j))) (preds_of (entries k (suc j))) (totals_of (entries k (suc j))) in subst P (omega arith) h) _ refl
+    entry_is j h =
+        next k n ok (counts_of (entries k j)) (preds_of (entries k j)) (totals_of (entries k j)) (suc j) (omega arith)
+        (let P : ℕ → Type 0 = λ m. Filled k m (counts_of (entries k j)) (preds_of (entries k j)) (totals_of (entries k j)) in subst P (omega arith) h)
 
     pub filled_entries : (j : ℕ) → Filled k j (counts_of (entries k j)) (preds_of (entries k j)) (totals_of (entries k j))
     filled_entries zero i a b = absurd (omega arith)

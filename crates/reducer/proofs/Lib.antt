@@ -2,7 +2,6 @@ pub mod Scans
 pub mod Least
 pub mod Optimal
 pub mod Entries
-pub mod Trails
 pub mod Walks
 pub mod Unique
 pub mod Filled

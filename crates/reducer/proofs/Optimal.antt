@@ -2,7 +2,7 @@
 use Rattle.std.proofs.Common.{◌≡◌, ℕ, ◌+◌, ◌-◌, ◌<◌, ◌≤◌, Bool, true, false, cond, ◌||◌, eqb, ltb, leb, List, [], ◌∷◌, ◌++◌, length, get_or, Some, None, Option, sym, refl, ap, ◌∙◌, subst, ⊎_elim, arith}
 use mathlib.Core.List.{foldl-append}
 use Rattle.std.proofs.lemmas.Bool.Decides.{nat_tests}
-use Rattle.std.proofs.lemmas.Bool.{cases_Bool, both_ways, leb-true, le-leb}
+use Rattle.std.proofs.lemmas.Bool.{cases_Bool, cases_lt, both_ways, leb-true, le-leb}
 use Rattle.std.proofs.lemmas.List.{length_push, nil_from_length}
 use Rattle.total.specs.Laws.{Held, none, one, both, Laws, limit}
 use Rattle.reducer.specs.Chains.{Task, Lawful, Chain, alone, more, total, Best, Turns, Cut, Entry, origin, unreached, reached, Filled}
@@ -307,5 +307,15 @@ module _ {A : Type 0} (k : Task A) (n : ℕ) (ok : Sound k n) where
     entered_is None h = unreached (next_cut cs ps ts j late below_j h) refl refl refl
     entered_is (Some s) h = next_entry cs ps ts j late below_j s h
 
-    pub next : (s : Step A) → s ≡ entered k.start (scan k.order (offer k cs ts j) (j - 1)) → Entry k j s.pair.chords s.from s.pair.total
-    next s e = subst (λ (s : Step A). Entry k j s.pair.chords s.from s.pair.total) (sym e) (entered_is (scan k.order (offer k cs ts j) (j - 1)) (scanned cs ps ts j below_j))
+    next_found : let s = entered k.start (scan k.order (offer k cs ts j) (j - 1)) in Entry k j s.pair.chords s.from s.pair.total
+    next_found = entered_is (scan k.order (offer k cs ts j) (j - 1)) (scanned cs ps ts j below_j)
+
+  -- the first entry says that nothing leads there
+  pub next : (cs ps : List ℕ) (ts : List A) (j : ℕ) → 1 ≤ j → Filled k (j - 1) cs ps ts → let s = entered k.start (scan k.order (offer k cs ts j) (j - 1)) in Entry k j s.pair.chords s.from s.pair.total
+  next cs ps ts j low filled =
+      ⊎_elim
+      (λ (h : j < 2).
+      let one : 1 ≡ j = omega arith in
+      subst (λ m. let s = entered k.start (scan k.order (offer k cs ts m) (m - 1)) in Entry k m s.pair.chords s.from s.pair.total) one (origin refl refl refl refl))
+      (λ h. next_found cs ps ts j h filled)
+      (cases_lt j 2)

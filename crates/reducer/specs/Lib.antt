@@ -8,3 +8,4 @@ pub mod Runs
 pub mod Recorded
 pub mod Worthless
 pub mod Reduced
+pub mod Asked

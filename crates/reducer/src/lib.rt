@@ -3,6 +3,6 @@
 
 pub mod answer;
 pub mod reduce;
-mod relax;
+mod search;
 pub mod step;
-mod walk;
+mod tables;

@@ -13,52 +13,12 @@ ghost use Rattle.reducer.specs.Runs.{GoesOn, StepsGoOn};
 ghost use Rattle.reducer.specs.Worthless.{ShutsOut, OneKept};
 
 use crate::answer::Answer;
-use crate::relax::{count, relax};
-use crate::walk::walk;
+use crate::search::Search;
+use crate::tables::Tables;
 use measure::measure::Measure;
-use total::total::{LIMIT, Total};
+use total::total::Total;
 use tray::causes::Refusal;
 use tray::tray::Lifted;
-
-// Fills the tables and lists the kept chain, or refuses.
-fn search_chain<M: Measure, T: Total>(
-    stroke: &Lifted,
-    measure: &M,
-    tolerance: u64,
-    counts: &mut [u16],
-    preds: &mut [u16],
-    totals: &mut [T],
-    list: &mut [u16],
-) -> Result<Answer<T>, Refusal>
-    ensures { Outcome (task T.Total (M.Measure.meaning measure.now (stroke_of stroke.now)) tolerance) (length (stroke_of stroke.now)) (lent counts.old preds.old totals.old list.old) (lent counts.new preds.new totals.new list.new) result }
-{
-    let n = count(stroke);
-    if n == 0 {
-        return Err(Refusal::BareTray);
-    }
-    if tolerance > LIMIT {
-        return Err(Refusal::WideTolerance);
-    }
-    let last = n as u16;
-    if counts.len() < n || preds.len() < n || totals.len() < n {
-        return Err(Refusal::ShortTable(last));
-    }
-    relax(stroke, measure, tolerance, counts, preds, totals);
-    let chords = counts[n - 1];
-    if n > 1 && chords == 0 {
-        return Err(Refusal::NoWay(last));
-    }
-    let needed = chords + 1;
-    let count = needed as usize;
-    if list.len() < count {
-        return Err(Refusal::ShortList(needed));
-    }
-    walk(preds, last, count, list);
-    Ok(Answer {
-        count,
-        total: totals[n - 1],
-    })
-}
 
 // Keeps the chain with the fewest points, and of these the least total. It changes no point and no mark.
 pub fn reduce<M: Measure, T: Total>(
@@ -76,7 +36,17 @@ pub fn reduce<M: Measure, T: Total>(
     ensures runs { GoesOn (lifted stroke.now) (calls_reduce (reduction T.Total (M.Measure.meaning measure.now) tolerance (lent counts.old preds.old totals.old list.old) (lent counts.new preds.new totals.new list.new) result)) (lifted stroke.now) }
     ensures other_calls { StepsGoOn }
 {
-    search_chain(stroke, measure, tolerance, counts, preds, totals, list)
+    let search = Search {
+        stroke,
+        measure,
+        tolerance,
+    };
+    let mut tables = Tables {
+        counts,
+        preds,
+        totals,
+    };
+    search.run(&mut tables, list)
 }
 
 // The law shuts out each reducer that is of no worth, and a stroke has one kept chain.
