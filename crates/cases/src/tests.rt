@@ -38,6 +38,20 @@ fn answers(rt: &impl Abort, said: Result<u16, Refusal>, number: u16) -> Result<(
     Ok(())
 }
 
+// The call was refused, and tells this.
+fn tells<T: Drop, E>(rt: &impl Abort, said: Result<T, E>, told: Told) -> Result<(), Fail>
+where
+    Told: From<E>,
+{
+    match said {
+        Ok(_) => Err(Fail::new("not refused")),
+        Err(refusal) => {
+            assert_eq!(rt; Told::from(refusal), told);
+            Ok(())
+        },
+    }
+}
+
 // The tray refused the call with this number, at this place.
 fn refuses<T: Drop>(
     rt: &impl Abort,
@@ -45,18 +59,14 @@ fn refuses<T: Drop>(
     number: u16,
     place: usize,
 ) -> Result<(), Fail> {
-    match said {
-        Ok(_) => Err(Fail::new("not refused")),
-        Err(refusal) => {
-            assert_eq!(rt;
-                refusal.told(),
-                Told {
-                    number,
-                    place,
-                    layer: Layer::Tray,
-                }
-            );
-            Ok(())
+    let layer = Layer::Tray;
+    tells(
+        rt,
+        said,
+        Told {
+            number,
+            place,
+            layer,
         },
-    }
+    )
 }

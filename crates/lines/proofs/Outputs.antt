@@ -1,5 +1,5 @@
 -- What is printed of a reading, call by call of the job.
-use Rattle.std.proofs.Common.{◌≡◌, ℕ, ◌+◌, ◌≤◌, false, ltb, List, [], ◌∷◌, ◌++◌, length, Some, Ok, Err, Option, sym, ap, ◌∙◌, subst, append_assoc, append-nil, arith, length-append}
+use Rattle.std.proofs.Common.{◌≡◌, ℕ, ◌+◌, ◌≤◌, false, ltb, List, [], ◌∷◌, ◌++◌, length, Some, Ok, Err, Option, Result, OnOk, sym, ap, ◌∙◌, subst, append_assoc, append-nil, arith, length-append}
 use Rattle.std.specs.List.{flat_map}
 use Rattle.std.proofs.lemmas.Bool.{le-leb, le-ltb, cond-true, cond-false}
 use Rattle.std.proofs.lemmas.Bool.Decides.{nat_tests}
@@ -14,7 +14,8 @@ use Rattle.job.specs.declared.job.Job.{Job}
 use Rattle.job.specs.declared.job.JobFault.{JobFault}
 use Rattle.job.specs.Jobs.{Line, Next, one_more, stopped_by, line, line_of, record_of, to_read, next_of, next_from, next_done}
 use Rattle.job.proofs.Answerings.{written_length}
-use Rattle.lines.specs.Text.{line_text, refusal_text}
+use Rattle.refusal.specs.Texts.{refusal_text}
+use Rattle.lines.specs.Text.{line_text}
 use Rattle.lines.specs.Output.{with_feed, stroke_text, ending_text, read_text, longest, LinesInTurn}
 
 -- the first stroke left is answered, where the answers of all fit
@@ -71,6 +72,11 @@ module _ (j j' : Job) (out out' : List ℕ) (room : Room j out) where
       let P : Next → Type 0 = λ x.
       (read_text (to_read j) ≡ with_feed (line_text (line a)) ++ read_text x.remains) × (x.used + length (flat_map record_of x.remains.strokes) ≤ length x.bytes) in
       subst P (sym e') q
+
+-- what holds where a call succeeds
+pub on_ok : {E P Q : Type 0} (r : Result (Unit {0}) E) → (P → Q) → OnOk r P → OnOk r Q
+on_ok (Ok u) f h = f h
+on_ok (Err e) f h = tt
 
 -- one line more of what is left
 pub line_more : (whole text text' line left left' : List ℕ) → text ++ left ≡ whole → text' ≡ text ++ line → left ≡ line ++ left' → text' ++ left' ≡ whole

@@ -13,11 +13,12 @@ use Rattle.std.specs.List.{flat_map, AllByRecursion}
 use Rattle.refusal.specs.declared.Told.{Told}
 use Rattle.refusal.specs.declared.Layer.TheVariants.{Program}
 use Rattle.refusal.specs.Said.{at_layer}
+use Rattle.refusal.specs.Texts.{refusal_text}
 use Rattle.page.specs.Strokes.{Stroke, page_bytes}
 use Rattle.page.specs.Fits.{StrokeFits}
 use Rattle.page.specs.Steps.{Reading, Ending, accepted, refused_by, reading}
 use Rattle.job.specs.Jobs.{line_of}
-use Rattle.lines.specs.Text.{line_text, refusal_text}
+use Rattle.lines.specs.Text.{line_text}
 
 abbrev pub with_feed : List ℕ → List ℕ
 with_feed l = l ++ 10 ∷ []

@@ -1,11 +1,12 @@
 // Everything that the program prints: a line for each stroke of a page, and one more where the page is refused.
-ghost use Rattle.std.specs.Prelude.{◌≡◌, ◌≤◌, ◌++◌, length, IfOk, string_bytes, OnOk};
+ghost use Rattle.std.specs.Prelude.{◌≡◌, ℕ, ◌≤◌, List, ◌++◌, length, Some, IfOk, string_bytes, OnOk};
 ghost use Rattle.lines.specs.Output.{with_feed, page_text, long_page, program_text, LinesInTurn};
 
-use crate::{refusal_line, stroke_line};
+use crate::line::StrokeLine;
 use job::job::Job;
 use refusal::{Layer, Told};
 use std::alloc::{AllocError, Global};
+use std::fmt;
 
 // How many bytes a page may have. The answers of such a page need no more.
 pub const LONGEST: usize = 65536;
@@ -22,21 +23,14 @@ fn too_long() -> Told
 }
 
 // Appends a line and ends it.
-fn push_line(text: &mut String, line: String) -> Result<(), AllocError>
-    ensures { OnOk result (string_bytes text.new ≡ string_bytes text.old ++ with_feed (string_bytes line)) }
+fn push_line<L: fmt::Display>(text: &mut String, line: &L) -> Result<(), AllocError>
+    ensures { (bs : List ℕ) → L.output line.now ≡ Some bs → OnOk result (string_bytes text.new ≡ string_bytes text.old ++ with_feed bs) }
 {
-    text.push_str(line.as_str())?;
-    text.push_str("\n")?;
-    Ok(())
+    writeln!(text, "{line}")
 }
 
 // Appends the lines of a page, whose records of answers go to an answer page.
-fn push_page(
-    heap: Global,
-    text: &mut String,
-    page: &[u8],
-    answers: &mut [u8],
-) -> Result<(), AllocError>
+fn push_page(text: &mut String, page: &[u8], answers: &mut [u8]) -> Result<(), AllocError>
     requires { length page.now ≤ length answers.old }
     ensures { OnOk result (string_bytes text.new ≡ string_bytes text.old ++ page_text page.now) }
 {
@@ -44,15 +38,12 @@ fn push_page(
     loop {
         let next = match job.next(answers) {
             Ok(next) => next,
-            Err(stop) => {
-                push_line(text, refusal_line(heap, stop.fault.told())?)?;
-                return Ok(());
-            }
+            Err(stop) => return push_line(text, &Told::from(stop.fault)),
         };
         let Some(answered) = next else {
             return Ok(());
         };
-        push_line(text, stroke_line(heap, &answered)?)?;
+        push_line(text, &StrokeLine(&answered))?;
     }
 }
 
@@ -61,11 +52,11 @@ fn text_of(heap: Global, input: &[u8]) -> Result<String, AllocError>
 {
     let mut text = String::new(heap);
     if input.len() > LONGEST {
-        push_line(&mut text, refusal_line(heap, too_long())?)?;
+        push_line(&mut text, &too_long())?;
         return Ok(text);
     }
     let mut answers = vec![in heap; 0u8; LONGEST]?;
-    push_page(heap, &mut text, input, &mut answers)?;
+    push_page(&mut text, input, &mut answers)?;
     Ok(text)
 }
 

@@ -36,21 +36,21 @@ pub struct Order {
 }
 
 // The two total fields of a record of kept points.
-#[derive(Clone, Copy)]
+#[derive(Clone, Copy, Debug, PartialEq, Eq)]
 pub struct Totals {
     pub first: u64,
     pub second: u64,
 }
 
 // Where a walk stands: between strokes, or inside one.
-#[derive(Clone, Copy)]
+#[derive(Clone, Copy, Debug, PartialEq, Eq)]
 pub enum Part {
     Outside,
     Inside,
 }
 
 // What one record says where it stands, or that the page has ended.
-#[derive(Clone, Copy)]
+#[derive(Clone, Copy, Debug, PartialEq, Eq)]
 pub enum Step {
     Begin(u32),
     Point(Point),

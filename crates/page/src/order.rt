@@ -1,6 +1,6 @@
 // Orders whose codes are known, and what the codes name.
 ghost use Rattle.std.specs.Prelude.{◌≡◌};
-ghost use Rattle.page.specs.Codes.{NamesMeasure, NamesTotal, NamesOrder};
+ghost use Rattle.page.specs.Codes.{coded, NamesMeasure, NamesTotal, NamesOrder};
 
 use crate::kinds::Order;
 
@@ -59,6 +59,19 @@ impl TryFrom<u8> for TotalKind {
             2 => Ok(TotalKind::Worst),
             3 => Ok(TotalKind::SumThenWorst),
             _ => Err(UnknownCode(code)),
+        }
+    }
+}
+
+impl From<KnownOrder> for Order {
+    ghost from_gives = { λ known order. order ≡ coded known };
+
+    fn from(known: KnownOrder) -> Order {
+        Order {
+            measure: known.measure as u8,
+            total: known.total as u8,
+            span: known.span,
+            tolerance: known.tolerance,
         }
     }
 }

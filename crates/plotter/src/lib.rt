@@ -6,6 +6,7 @@ ghost use Rattle.job.specs.Jobs.{jobbed};
 ghost use Rattle.plotter.specs.Status.{status_of};
 
 use job::next::run;
+use refusal::Told;
 
 // How many strokes were answered, and the number and the place of the refusal that stopped the job; number 0 where none did.
 #[repr(C)]
@@ -29,10 +30,10 @@ pub extern "C" fn fulgestam_reduce(page: &[u8], answers: &mut [u8], status: &mut
             place: 0,
         },
         Err(stop) => {
-            let told = stop.fault.told();
+            let told = Told::from(stop.fault);
             Status {
                 strokes: stop.appended,
-                refusal: told.number as usize,
+                refusal: usize::from(told.number),
                 place: told.place,
             }
         }

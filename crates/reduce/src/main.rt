@@ -1,76 +1,24 @@
 // The program: reads a page from standard input and prints a line for each of its strokes.
 #![tactic(auto)]
 
-ghost use Rattle.std.specs.Prelude.{◌≡◌, ◌≤◌, length, IfOk};
-ghost use Rattle.refusal.specs.declared.Layer.TheVariants.{Program};
-ghost use Rattle.refusal.specs.Said.{at_layer};
+ghost use Rattle.std.specs.Prelude.{◌≡◌, IfOk, IfSome, string_bytes};
+ghost use Rattle.lines.specs.Output.{program_text};
 
-use job::job::Job;
-use lines::{refusal_line, stroke_line};
-use refusal::{Layer, Told};
-use std::io;
+use lines::output;
+use lines::output::LONGEST;
+use std::alloc::Global;
 use std::io::Read;
 
-// How many bytes a page may have. The answers of such a page need no more.
-const LIMIT: usize = 65536;
-
-// The refusal of a page that is too long.
-fn long_page() -> Told
-    ensures { result ≡ at_layer Program 17 65536 }
+// What is printed of an input. Of one that is too long for a page no more is read than shows it.
+fn printed<R: Read + Drop>(heap: Global, input: R) -> anyhow::Result<String>
+    ensures { IfOk result (λ text. IfSome (R.remaining input) (λ bs. string_bytes text ≡ program_text bs)) }
 {
-    Told {
-        number: 17,
-        place: LIMIT,
-        layer: Layer::Program,
-    }
-}
-
-// Fills the buffer as far as the input goes, and says how far that is.
-fn fill<R: Read>(input: &mut R, buf: &mut [u8]) -> io::Result<usize>
-    ensures { IfOk result (λ n. n ≤ length buf.new) }
-{
-    let mut len = 0;
-    while len < buf.len() {
-        let n = input.read(&mut buf[len..])?;
-        if n == 0 {
-            break;
-        }
-        len += n;
-    }
-    Ok(len)
-}
-
-// Prints the lines of a page.
-fn print_page(rt: &HostRuntime, page: &[u8]) -> anyhow::Result<()> {
-    let heap = rt.alloc();
-    let mut answers = vec![in heap; 0u8; LIMIT]?;
-    let mut job = Job::new(page);
-    for _ in 0..page.len() + 1 {
-        let next = match job.next(&mut answers) {
-            Ok(next) => next,
-            Err(stop) => {
-                rt.println(refusal_line(heap, stop.fault.told())?)?;
-                return Ok(());
-            }
-        };
-        let Some(answered) = next else {
-            return Ok(());
-        };
-        rt.println(stroke_line(heap, &answered)?)?;
-    }
-    Ok(())
-}
-
-fn run(rt: &HostRuntime) -> anyhow::Result<()> {
-    let mut buf = vec![in rt.alloc(); 0u8; LIMIT + 1]?;
-    let len = fill(&mut rt.stdin(), &mut buf)?;
-    if len > LIMIT {
-        rt.println(refusal_line(rt.alloc(), long_page())?)?;
-        return Ok(());
-    }
-    print_page(rt, &buf[0..len])
+    let mut page = Vec::new(heap);
+    input.take(LONGEST as u64 + 1).read_to_end(&mut page)?;
+    Ok(output::program_text(heap, &page)?)
 }
 
 fn main(rt: HostRuntime) -> anyhow::Result<()> {
-    run(&rt)
+    rt.print(printed(rt.alloc(), rt.stdin())?)?;
+    Ok(())
 }

@@ -1,6 +1,8 @@
 // Pages written and read: a stroke there and back, answers, and what is refused.
-use page::fault::{PageFault, StepFault};
+use super::tells;
+use page::fault::PageFault;
 use page::kinds::{Order, Point, Record, Step, Totals};
+use page::order::KnownOrder;
 use page::walk::Walk;
 use page::writer::Writer;
 use refusal::{Layer, Told};
@@ -37,48 +39,14 @@ fn told(number: u16, place: usize) -> Told {
     }
 }
 
-// The writer refused with this number, at this place.
-fn refuses(
+// The call was refused with this number, at this place.
+fn refuses<T: Drop>(
     rt: &impl Abort,
-    said: Result<usize, PageFault>,
+    said: Result<T, PageFault>,
     number: u16,
     place: usize,
 ) -> Result<(), Fail> {
-    match said {
-        Ok(_) => Err(Fail::new("not refused")),
-        Err(fault) => {
-            assert_eq!(rt; fault.told(), told(number, place));
-            Ok(())
-        },
-    }
-}
-
-fn begun(step: Step) -> Option<u32> {
-    match step {
-        Step::Begin(number) => Some(number),
-        _ => None,
-    }
-}
-
-fn pointed(step: Step) -> Option<Point> {
-    match step {
-        Step::Point(point) => Some(point),
-        _ => None,
-    }
-}
-
-fn finished(step: Step) -> Option<Order> {
-    match step {
-        Step::Finish(order) => Some(order),
-        _ => None,
-    }
-}
-
-fn is_end(step: Step) -> bool {
-    match step {
-        Step::End => true,
-        _ => false,
-    }
+    tells(rt, said, told(number, place))
 }
 
 #[test]
@@ -97,18 +65,18 @@ fn stroke_is_written(rt: HostRuntime) -> Result<(), Fail> {
 #[test]
 fn stroke_reads_back(rt: HostRuntime) -> Result<(), Fail> {
     let mut walk = Walk::new(&STROKE);
-    assert_eq!(rt; begun(walk.step()?), Some(7));
-    assert_eq!(rt; pointed(walk.step()?), Some(CORNER));
-    assert_eq!(rt; finished(walk.step()?), Some(ORDER));
-    assert!(rt; is_end(walk.step()?));
-    assert!(rt; is_end(walk.step()?));
+    assert_eq!(rt; walk.step()?, Step::Begin(7));
+    assert_eq!(rt; walk.step()?, Step::Point(CORNER));
+    assert_eq!(rt; walk.step()?, Step::Finish(KnownOrder::try_from(ORDER)?));
+    assert_eq!(rt; walk.step()?, Step::End);
+    assert_eq!(rt; walk.step()?, Step::End);
     Ok(())
 }
 
 #[test]
 fn record_is_looked_at_in_place(rt: HostRuntime) -> Result<(), Fail> {
     let mut walk = Walk::new(&STROKE);
-    assert_eq!(rt; begun(walk.step()?), Some(7));
+    assert_eq!(rt; walk.step()?, Step::Begin(7));
     let Some(placed) = walk.look()? else {
         return Err(Fail::new("no record"));
     };
@@ -122,29 +90,13 @@ fn record_is_looked_at_in_place(rt: HostRuntime) -> Result<(), Fail> {
     }
 }
 
-// The step was refused with this number, at this place.
-fn stops(
-    rt: &impl Abort,
-    said: Result<Step, StepFault>,
-    number: u16,
-    place: usize,
-) -> Result<(), Fail> {
-    match said {
-        Ok(_) => Err(Fail::new("not refused")),
-        Err(fault) => {
-            assert_eq!(rt; fault.told(), told(number, place));
-            Ok(())
-        },
-    }
-}
-
 #[test]
 fn refused_step_moves_nothing(rt: HostRuntime) -> Result<(), Fail> {
     let mut walk = Walk::new(&STROKE[0..20]);
-    assert_eq!(rt; begun(walk.step()?), Some(7));
-    assert_eq!(rt; pointed(walk.step()?), Some(CORNER));
-    stops(&rt, walk.step(), 14, 20)?;
-    stops(&rt, walk.step(), 14, 20)?;
+    assert_eq!(rt; walk.step()?, Step::Begin(7));
+    assert_eq!(rt; walk.step()?, Step::Point(CORNER));
+    refuses(&rt, walk.step(), 14, 20)?;
+    refuses(&rt, walk.step(), 14, 20)?;
     assert_eq!(rt; walk.place, 20);
     Ok(())
 }
@@ -156,7 +108,7 @@ fn stopped(page: &[u8]) -> Option<Told> {
         match walk.step() {
             Ok(Step::End) => return None,
             Ok(_) => {}
-            Err(fault) => return Some(fault.told()),
+            Err(fault) => return Some(Told::from(fault)),
         }
     }
     None

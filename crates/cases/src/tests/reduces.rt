@@ -7,6 +7,7 @@ use measure::span::Span;
 use measure::synchronous::Synchronous;
 use reducer::answer::Answer;
 use reducer::reduce::reduce;
+use std::fmt::Debug;
 use std::process::Abort;
 use std::test::Fail;
 use total::sum::Sum;
@@ -48,15 +49,7 @@ fn run<M: Measure, T: Total>(
 }
 
 fn sums(of: [u64; 6]) -> [Sum; 6] {
-    let [a, b, c, d, e, f] = of;
-    [
-        Sum { sum: a },
-        Sum { sum: b },
-        Sum { sum: c },
-        Sum { sum: d },
-        Sum { sum: e },
-        Sum { sum: f },
-    ]
+    of.map(|sum| Sum { sum })
 }
 
 // A reduce by sums answers this count and this sum, and leaves this list.
@@ -83,91 +76,74 @@ fn keeps<M: Measure>(
     Ok(())
 }
 
-#[test]
-fn hook_by_sum(rt: HostRuntime) -> Result<(), Fail> {
+// A reduce of the hook with the tolerance 5, lent tables of these totals, keeps three points with this total, and leaves these tables and list.
+fn reduces_hook<T: Total + Debug + PartialEq>(
+    rt: &impl Abort,
+    mut totals: [T; 6],
+    total: T,
+    after: [T; 6],
+    left: Lent,
+) -> Result<(), Fail> {
     let hook = hook()?.lift();
     let mut lent = BLANK;
-    let mut totals = [NO_SUM; 6];
     let answer = run(&hook, &Synchronous, 5, &mut lent, &mut totals)?;
-    assert_eq!(rt;
-        answer,
-        Answer {
-            count: 3,
-            total: Sum { sum: 5 },
-        }
-    );
-    assert_eq!(rt; totals, sums([0, 0, 4, 1, 5, 9]));
-    assert_eq!(rt;
-        lent,
-        Lent {
-            counts: [0, 1, 1, 2, 2, 9],
-            preds: [0, 1, 1, 2, 2, 9],
-            list: [1, 2, 5, 9, 9, 9],
-        }
-    );
+    assert_eq!(rt; answer, Answer { count: 3, total });
+    assert_eq!(rt; totals, after);
+    assert_eq!(rt; lent, left);
     Ok(())
+}
+
+#[test]
+fn hook_by_sum(rt: HostRuntime) -> Result<(), Fail> {
+    let left = Lent {
+        counts: [0, 1, 1, 2, 2, 9],
+        preds: [0, 1, 1, 2, 2, 9],
+        list: [1, 2, 5, 9, 9, 9],
+    };
+    reduces_hook(
+        &rt,
+        [NO_SUM; 6],
+        Sum { sum: 5 },
+        sums([0, 0, 4, 1, 5, 9]),
+        left,
+    )
 }
 
 #[test]
 fn hook_by_worst(rt: HostRuntime) -> Result<(), Fail> {
-    let hook = hook()?.lift();
-    let mut lent = BLANK;
-    let mut totals = [Worst { worst: 9 }; 6];
-    let answer = run(&hook, &Synchronous, 5, &mut lent, &mut totals)?;
-    assert_eq!(rt;
-        answer,
-        Answer {
-            count: 3,
-            total: Worst { worst: 4 },
-        }
-    );
-    let [a, b, c, d, e, f] = totals;
-    assert_eq!(rt;
-        [a.worst, b.worst, c.worst, d.worst, e.worst, f.worst],
-        [0, 0, 4, 1, 4, 9]
-    );
-    assert_eq!(rt;
-        lent,
-        Lent {
-            counts: [0, 1, 1, 2, 2, 9],
-            preds: [0, 1, 1, 2, 3, 9],
-            list: [1, 3, 5, 9, 9, 9],
-        }
-    );
-    Ok(())
+    let left = Lent {
+        counts: [0, 1, 1, 2, 2, 9],
+        preds: [0, 1, 1, 2, 3, 9],
+        list: [1, 3, 5, 9, 9, 9],
+    };
+    let after = [0, 0, 4, 1, 4, 9].map(|worst| Worst { worst });
+    reduces_hook(
+        &rt,
+        [Worst { worst: 9 }; 6],
+        Worst { worst: 4 },
+        after,
+        left,
+    )
 }
 
 #[test]
 fn hook_by_sum_then_worst(rt: HostRuntime) -> Result<(), Fail> {
-    let hook = hook()?.lift();
-    let mut lent = BLANK;
-    let mut totals = [SumThenWorst { sum: 9, worst: 9 }; 6];
-    let answer = run(&hook, &Synchronous, 5, &mut lent, &mut totals)?;
-    assert_eq!(rt;
-        answer,
-        Answer {
-            count: 3,
-            total: SumThenWorst { sum: 5, worst: 4 },
-        }
-    );
-    let [a, b, c, d, e, f] = totals;
-    assert_eq!(rt;
-        [a.sum, b.sum, c.sum, d.sum, e.sum, f.sum],
-        [0, 0, 4, 1, 5, 9]
-    );
-    assert_eq!(rt;
-        [a.worst, b.worst, c.worst, d.worst, e.worst, f.worst],
-        [0, 0, 4, 1, 4, 9]
-    );
-    assert_eq!(rt;
-        lent,
-        Lent {
-            counts: [0, 1, 1, 2, 2, 9],
-            preds: [0, 1, 1, 2, 3, 9],
-            list: [1, 3, 5, 9, 9, 9],
-        }
-    );
-    Ok(())
+    let left = Lent {
+        counts: [0, 1, 1, 2, 2, 9],
+        preds: [0, 1, 1, 2, 3, 9],
+        list: [1, 3, 5, 9, 9, 9],
+    };
+    let after = [(0, 0), (0, 0), (4, 4), (1, 1), (5, 4), (9, 9)].map(|(sum, worst)| SumThenWorst {
+        sum,
+        worst,
+    });
+    reduces_hook(
+        &rt,
+        [SumThenWorst { sum: 9, worst: 9 }; 6],
+        SumThenWorst { sum: 5, worst: 4 },
+        after,
+        left,
+    )
 }
 
 #[test]

@@ -81,10 +81,7 @@ fn tray_gets_full(rt: HostRuntime) -> Result<(), Fail> {
 
 // The mark of the point with this index.
 fn mark_of(stroke: &Lifted, index: usize) -> Option<Mark> {
-    match stroke.points().get(index) {
-        Some(point) => Some(point.mark),
-        None => None,
-    }
+    stroke.points().get(index).map(|point| point.mark)
 }
 
 #[test]

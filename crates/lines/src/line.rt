@@ -1,0 +1,81 @@
+// The line of a stroke, part by part.
+ghost use Rattle.std.specs.Prelude.{Some};
+ghost use Rattle.page.specs.Codes.{total_code};
+ghost use Rattle.job.specs.Jobs.{line as line_of};
+ghost use Rattle.job.specs.Records.{shown};
+ghost use Rattle.lines.specs.Text.{kept_text, figures_text, reply_text, line_text};
+
+use job::answered::Answered;
+use page::kinds::Totals;
+use page::order::TotalKind;
+use refusal::Told;
+use std::fmt;
+
+// The kept numbers, each after a space.
+#[derive(Clone, Copy)]
+struct KeptNumbers<'a>(&'a [u16]);
+
+impl fmt::Display for KeptNumbers<'_> {
+    ghost output = { λ ks. Some (kept_text ks.0.now) };
+
+    fn fmt<W: fmt::Write>(&self, f: &mut fmt::Formatter<W>) -> fmt::Result {
+        for n in self.0 {
+            write!(f, " {n}")?;
+        }
+        Ok(())
+    }
+}
+
+// The figures of a total: one, or two for the sum and then the worst.
+#[derive(Clone, Copy)]
+struct Figures(TotalKind, Totals);
+
+impl fmt::Display for Figures {
+    ghost output = { λ t. Some (figures_text (total_code t.0) t.1) };
+
+    fn fmt<W: fmt::Write>(&self, f: &mut fmt::Formatter<W>) -> fmt::Result {
+        let Totals { first, second } = self.1;
+        match self.0 {
+            TotalKind::Sum | TotalKind::Worst => write!(f, " total {first}"),
+            TotalKind::SumThenWorst => write!(f, " total {first} {second}"),
+        }
+    }
+}
+
+// The kept numbers and the figures, or the refusal.
+#[derive(Clone, Copy)]
+struct Reply<'a>(&'a Answered);
+
+impl fmt::Display for Reply<'_> {
+    ghost output = { λ r. Some (reply_text (total_code r.0.now.total) (shown r.0.now)) };
+
+    fn fmt<W: fmt::Write>(&self, f: &mut fmt::Formatter<W>) -> fmt::Result {
+        match self.0.reply {
+            Ok(kept) => {
+                let numbers = KeptNumbers(kept.numbers());
+                let figures = Figures(self.0.total, kept.totals);
+                write!(f, " kept{numbers}{figures}")
+            }
+            Err(refusal) => {
+                let told = Told::from(refusal);
+                let number = told.number;
+                let place = told.place;
+                write!(f, " refused {number} at {place}")
+            }
+        }
+    }
+}
+
+// All of it: the stroke's number, and its reply.
+#[derive(Clone, Copy)]
+pub(crate) struct StrokeLine<'a>(pub(crate) &'a Answered);
+
+impl fmt::Display for StrokeLine<'_> {
+    ghost output = { λ l. Some (line_text (line_of l.0.now)) };
+
+    fn fmt<W: fmt::Write>(&self, f: &mut fmt::Formatter<W>) -> fmt::Result {
+        let number = self.0.number;
+        let reply = Reply(self.0);
+        write!(f, "stroke {number}{reply}")
+    }
+}
