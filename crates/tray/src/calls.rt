@@ -73,7 +73,7 @@ impl Lifted {
         self.table.set_mark(i, Mark::Plain)
     }
 
-    // A bare tray, with the pen down.
+    // A bare tray, with the pen down. Each pen is a type of its own, so each has this call.
     pub fn clear(self) -> Writing
         ensures steps { writing result ≡ step (lifted self) calls_clear }
     {

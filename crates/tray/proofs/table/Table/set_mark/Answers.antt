@@ -1,4 +1,4 @@
-use Rattle.std.proofs.Common.{◌-◌, ◌<◌, length, refl, sym, subst, arith}
+use Rattle.std.proofs.Common.{◌-◌, ◌<◌, length, refl, sym, subst, rules}
 use Rattle.std.proofs.lemmas.List.{length-set}
 use Rattle.arrayvec.proofs.ArrayVecLemmas.{items-with_items}
 use Rattle.tray.specs.Stroke.{Lawful}
@@ -8,5 +8,5 @@ use Rattle.tray.proofs.table.Table.set_mark.Goals as goal
 pub invariant_of-self : goal.invariant_of-self
 invariant_of-self c =
     let m = c.args.self.now in
-    let h : c.args.i - 1 < length m.points.items = omega (arith, c.len.ensures.value) in
+    let h : c.args.i - 1 < length m.points.items = search rules in
     record { lawful = rw c.deref_mut.ensures.value (subst Lawful (sym (items-with_items m.points _ (length-set _ _ _))) (lawful_turned m.points.items (c.args.i - 1) _ c.args.mark h refl m.lawful)) }
