@@ -40,13 +40,7 @@ fn to_point<M: Measure>(measure: &M, stroke: &Lifted, j: usize) -> u64
     requires last { j ≤ 512 }
     ensures { result ≡ errors_to (M.Measure.meaning measure.now) (stroke_of stroke.now) j }
 {
-    let mut sum: u64 = 0;
-    for i in 1..j {
-        if let Some(error) = measure.error(stroke, i, j) {
-            sum += error;
-        }
-    }
-    sum
+    (1..j).filter_map(|i| measure.error(stroke, i, j)).sum()
 }
 
 // The sum of the errors of all chords.
@@ -54,11 +48,7 @@ fn every_chord<M: Measure>(measure: &M, stroke: &Lifted) -> u64
     ensures { result ≡ every_error (M.Measure.meaning measure.now) (stroke_of stroke.now) }
 {
     let n = stroke.points().len();
-    let mut sum: u64 = 0;
-    for j in 1..n + 1 {
-        sum += to_point(measure, stroke, j);
-    }
-    sum
+    (1..=n).map(|j| to_point(measure, stroke, j)).sum()
 }
 
 // The sum of the synchronous errors of all chords.
