@@ -10,3 +10,4 @@ pub mod Rights
 pub mod Runs
 pub mod Worthlesses
 pub mod Computed
+pub mod Ends

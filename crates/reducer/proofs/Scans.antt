@@ -1,5 +1,5 @@
 -- The step of a scan, and what is held of a point.
-use Rattle.std.proofs.Common.{◌≡◌, ℕ, zero, suc, ◌+◌, ◌-◌, ◌≤◌, Bool, true, false, List, get_or, Some, None, Option, refl, sym, ap, ◌∙◌, arith}
+use Rattle.std.proofs.Common.{◌≡◌, ℕ, zero, suc, ◌+◌, ◌-◌, ◌≤◌, Bool, true, List, get_or, Some, None, Option, refl, sym, ap, ◌∙◌, arith}
 use Rattle.std.specs.Option.{unwrap_or}
 use Rattle.reducer.specs.declared.step.Step.{Step}
 use Rattle.reducer.specs.Scan.{choose, scan, held, reached, entered, no_step}
@@ -14,9 +14,6 @@ scan_more order f (suc i) h =
     ap (λ n. choose order (scan order f n) (suc i) (f (suc i))) before ∙ sym (ap (scan order f) after)
 
 module _ {A : Type 0} (start : A) (cs : List ℕ) (ts : List A) (i : ℕ) where
-  pub held_none : held start cs ts i ≡ None → reached i (get_or cs (i - 1) 0) ≡ false
-  held_none h = grind arith
-
   pub held_some : (p : Pair A) → held start cs ts i ≡ Some p → (reached i (get_or cs (i - 1) 0) ≡ true) × (p ≡ pair (get_or cs (i - 1) 0) (get_or ts (i - 1) start))
   held_some p h = (grind arith, grind arith)
 
