@@ -11,3 +11,5 @@ pub mod Runs
 pub mod Worthlesses
 pub mod Computed
 pub mod Ends
+pub mod Exacts
+pub mod OneReply
