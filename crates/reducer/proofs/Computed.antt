@@ -2,7 +2,7 @@
 use Rattle.std.proofs.Common.{◌≡◌, ℕ, ◌-◌, ◌<◌, ◌≤◌, true, false, ◌||◌, eqb, ltb, leb, ◌⊎◌, List, ◌++◌, map, length, get_or, drop, Ok, Err, Result, sym, refl, ◌∙◌, subst, inl, inr, arith}
 use Rattle.std.proofs.lemmas.List.{drop_at, take_at, get_or_append_left, length-map}
 use Rattle.std.proofs.lemmas.Bool.Decides.{nat_tests}
-use Rattle.std.proofs.lemmas.Bool.{cases_Bool, leb-true, leb-false, ltb-true, ltb-false, cond-true, cond-false}
+use Rattle.std.proofs.lemmas.Bool.{cases_Bool, eqb-true, leb-true, leb-false, ltb-true, ltb-false, cond-true, cond-false}
 use Rattle.tray.specs.declared.causes.Refusal.{Refusal}
 use Rattle.tray.specs.declared.causes.Refusal.TheVariants.{BareTray, WideTolerance, ShortTable, NoWay, ShortList}
 use Rattle.tray.specs.Refusals.{tells as says}
@@ -34,9 +34,6 @@ tighten n c p t h = grind (arith, nat_tests)
 
 some : (n : ℕ) → eqb n 0 ≡ false → 1 ≤ n
 some n h = grind (arith, nat_tests)
-
-none : (n : ℕ) → eqb n 0 ≡ true → n ≡ 0
-none n h = grind (arith, nat_tests)
 
 module _ {A : Type 0} (k : Task A) (n : ℕ) (ok : Sound k n) (b : Lent A) (low : 1 ≤ n) (room : Room n b) (ls : List ℕ) where
   abbrev es : List (Step A)
@@ -111,7 +108,7 @@ module _ {A : Type 0} (k : Task A) (n : ℕ) (ok : Sound k n) (b : Lent A) (low 
 
 pub computed : {A : Type 0} (k : Task A) (n : ℕ) (sound : k.tolerance ≤ limit → Sound k n) (b : Lent A) → Computed k n b (reduced k n b)
 computed k n sound b = elim (cases_Bool (eqb n 0)) [
-  | inl e ↦ record { result = Err BareTray; left = b; is = sym (cond-true _ _ _ e); outcome = (none n e, refl) }
+  | inl e ↦ record { result = Err BareTray; left = b; is = sym (cond-true _ _ _ e); outcome = (eqb-true n 0 e, refl) }
   | inr e ↦ elim (cases_Bool (ltb limit k.tolerance)) [
     | inl w ↦ record { result = Err WideTolerance; left = b; is = sym (cond-false _ _ _ e ∙ cond-true _ _ _ w); outcome = (some n e, ltb-true _ _ w, refl) }
     | inr w ↦ elim (cases_Bool (short n b)) [

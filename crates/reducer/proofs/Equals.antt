@@ -2,7 +2,7 @@
 use Rattle.std.proofs.Common.{◌≡◌, ℕ, ◌-◌, ◌<◌, ◌≤◌, true, false, ◌||◌, eqb, ltb, leb, ◌⊎◌, List, ◌++◌, length, get_or, take, drop, Ok, Err, Result, sym, refl, ap, ◌∙◌, subst, ⊎_elim, arith}
 use Rattle.std.proofs.lemmas.List.{take-append-drop, length-map}
 use Rattle.std.proofs.lemmas.Bool.Decides.{nat_tests}
-use Rattle.std.proofs.lemmas.Bool.{cases_Bool, le-leb, cond-true, cond-false}
+use Rattle.std.proofs.lemmas.Bool.{cases_Bool, eq-eqb, le-leb, le-ltb, lt-leb, lt-ltb, cond-true, cond-false}
 use Rattle.tray.specs.declared.causes.Refusal.{Refusal}
 use Rattle.tray.specs.declared.causes.Refusal.TheVariants.{OffSheet, StoppedClock, LongStroke, FullTray, BareTray, NoSuchPoint, WideTolerance, ShortTable, NoWay, ShortList}
 use Rattle.tray.specs.Refusals.{tells as says}
@@ -19,26 +19,14 @@ use Rattle.reducer.proofs.Unique.{kept_unique}
 use Rattle.reducer.proofs.Walks.{walked}
 use Rattle.reducer.proofs.Filled.{entries_length, filled_entries, counts_front, preds_front, totals_front}
 
-is_bare : (n : ℕ) → n ≡ 0 → eqb n 0 ≡ true
-is_bare n h = grind (arith, nat_tests)
-
 not_bare : (n : ℕ) → 1 ≤ n → eqb n 0 ≡ false
 not_bare n h = grind (arith, nat_tests)
-
-not_wide : (t : ℕ) → t ≤ limit → ltb limit t ≡ false
-not_wide t h = grind (arith, nat_tests)
-
-wide : (t : ℕ) → limit < t → ltb limit t ≡ true
-wide t h = grind (arith, nat_tests)
 
 roomy : (n c p t : ℕ) → (n ≤ c) × (n ≤ p) × (n ≤ t) → (ltb c n || (ltb p n || ltb t n)) ≡ false
 roomy n c p t h = let a = h.0 in let b = h.1 in let d = h.2 in grind (arith, nat_tests)
 
 tight : (n c p t : ℕ) → (c < n) ⊎ ((p < n) ⊎ (t < n)) → (ltb c n || (ltb p n || ltb t n)) ≡ true
 tight n c p t h = grind (arith, nat_tests)
-
-too_long : (m n : ℕ) → n < m → leb m n ≡ false
-too_long m n h = grind (arith, nat_tests)
 
 same_lent : {A : Type 0} (cs cs' ps ps' ls ls' : List ℕ) (ts ts' : List A) → cs ≡ cs' → ps ≡ ps' → ts ≡ ts' → ls ≡ ls' → lent cs ps ts ls ≡ lent cs' ps' ts' ls'
 same_lent cs cs' ps ps' ls ls' ts ts' a b c d = cc
@@ -64,7 +52,7 @@ module _ {A : Type 0} (k : Task A) (n : ℕ) (ok : Sound k n) (b a : Lent A) (s 
   passed : reduced k n b ≡ searched k n b
   passed =
       cond-false _ _ _ (not_bare n s.some)
-      ∙ cond-false _ _ _ (not_wide k.tolerance s.tolerated)
+      ∙ cond-false _ _ _ (le-ltb limit k.tolerance s.tolerated)
       ∙ cond-false _ _ _ (roomy n (length b.counts) (length b.preds) (length b.totals) s.room)
 
   last_entry : Entry k n (chords k n) (get_or (preds_of (entries k n)) (n - 1) 0) (best_total k n)
@@ -114,12 +102,12 @@ module _ {A : Type 0} (k : Task A) (n : ℕ) (sound : k.tolerance ≤ limit → 
       (parted x.count a.list (kept_list k n) b.list (same_list k n ok b a s long x.count x.total _ o.counted o.answered) o.rest) in
       same_answer x.count (needed k n) x.total (best_total k n) a _ count (same_pair k n ok b a s long x.count x.total _ o.counted o.answered).1 (tables k n ok b a s long _ list)
       ∙ sym (passed k n ok b a s long ∙ cond-true _ _ _ (flag k n ok b a s long x.count x.total _ o.counted o.answered) ∙ cond-true _ _ _ fits)
-  equals (Err BareTray) o = same_refusal 5 0 0 a b refl o.1 ∙ sym (cond-true _ _ _ (is_bare n o.0))
+  equals (Err BareTray) o = same_refusal 5 0 0 a b refl o.1 ∙ sym (cond-true _ _ _ (eq-eqb n 0 o.0))
   equals (Err WideTolerance) o =
-      same_refusal 7 0 0 a b refl o.2 ∙ sym (cond-false _ _ _ (not_bare n o.0) ∙ cond-true _ _ _ (wide k.tolerance o.1))
+      same_refusal 7 0 0 a b refl o.2 ∙ sym (cond-false _ _ _ (not_bare n o.0) ∙ cond-true _ _ _ (lt-ltb limit k.tolerance o.1))
   equals (Err (ShortTable p)) o =
       same_refusal 8 p n a b o.3 o.4
-      ∙ sym (cond-false _ _ _ (not_bare n o.0) ∙ cond-false _ _ _ (not_wide k.tolerance o.1) ∙ cond-true _ _ _ (tight n (length b.counts) (length b.preds) (length b.totals) o.2))
+      ∙ sym (cond-false _ _ _ (not_bare n o.0) ∙ cond-false _ _ _ (le-ltb limit k.tolerance o.1) ∙ cond-true _ _ _ (tight n (length b.counts) (length b.preds) (length b.totals) o.2))
   equals (Err (NoWay p)) o =
       let ok = sound o.0.tolerated in
       let s = o.0 in
@@ -128,7 +116,7 @@ module _ {A : Type 0} (k : Task A) (n : ℕ) (sound : k.tolerance ≤ limit → 
       let ok = sound o.searched.tolerated in
       let s = o.searched in
       let count = same_count k n ok b a s long p o.total o.points o.counted o.answered in
-      let short : leb (needed k n) (length b.list) ≡ false = too_long _ _ (subst (λ m. length b.list < m) count o.room) in
+      let short : leb (needed k n) (length b.list) ≡ false = lt-leb _ _ (subst (λ m. length b.list < m) count o.room) in
       same_refusal 10 p (needed k n) a _ count (tables k n ok b a s long b.list o.same)
       ∙ sym (passed k n ok b a s long ∙ cond-true _ _ _ (flag k n ok b a s long p o.total o.points o.counted o.answered) ∙ cond-false _ _ _ short)
   equals (Err (OffSheet p)) o = absurd o

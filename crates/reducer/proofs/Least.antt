@@ -1,6 +1,7 @@
 -- What a scan finds: the best of what is offered, and the earliest of equals.
 use Rattle.std.proofs.Common.{◌≡◌, ℕ, zero, suc, ◌<◌, ◌≤◌, Bool, true, false, ◌⊎◌, Some, None, Option, sym, refl, ap, ◌∙◌, subst, inl, inr, ⊎_elim, arith}
 use Rattle.std.proofs.lemmas.Bool.Decides.{nat_tests}
+use Rattle.std.proofs.lemmas.Option.{none-some, same_Some}
 use Rattle.std.proofs.lemmas.Bool.{cases_lt, cond_both}
 use Rattle.reducer.specs.Scan.{choose, scan, step}
 use Rattle.total.specs.Pairs.{better}
@@ -33,9 +34,6 @@ Scanned order f i (Some s) = Least order f i s
 up_to : (n i : ℕ) → n ≤ suc i → (n ≡ suc i) ⊎ (n ≤ i)
 up_to n i h = ⊎_elim (λ l. inr (omega arith)) (λ l. inl (omega arith)) (cases_lt n (suc i))
 
-clash : {X : Type 0} (o : Option X) (x : X) → o ≡ None → o ≡ Some x → ⊥
-clash o x p q = let z : ◌≡◌ {A = ℕ} 0 1 = cc in omega arith
-
 module _ {A : Type 0} (order : A → A → Bool) (f : ℕ → Option (Pair A))
     (either : (n m : ℕ) (p q : Pair A) → f n ≡ Some p → f m ≡ Some q → (order p.total q.total ≡ true) ⊎ (order q.total p.total ≡ true))
     (trans : (n m l : ℕ) (p q r : Pair A) → f n ≡ Some p → f m ≡ Some q → f l ≡ Some r → order p.total q.total ≡ true → order q.total r.total ≡ true → order p.total r.total ≡ true)
@@ -45,19 +43,16 @@ module _ {A : Type 0} (order : A → A → Bool) (f : ℕ → Option (Pair A))
       low = h.low;
       high = omega (arith, h.high);
       offers = h.offers;
-      best = λ n q a b g. ⊎_elim (λ w. absurd (clash (f (suc i)) q e (ap f (sym w) ∙ g))) (λ l. h.best n q a l g) (up_to n i b);
+      best = λ n q a b g. ⊎_elim (λ w. absurd (none-some q (sym e ∙ ap f (sym w) ∙ g))) (λ l. h.best n q a l g) (up_to n i b);
       first = h.first;
     }
-
-    same_some : {X : Type 0} (o : Option X) (x y : X) → o ≡ Some x → o ≡ Some y → x ≡ y
-    same_some o x y p q = cc
 
     keeps : (i : ℕ) (s : Step A) (q : Pair A) → f (suc i) ≡ Some q → better order q s.pair ≡ false → Least order f i s → Least order f (suc i) s
     keeps i s q e t h = record {
       low = h.low;
       high = omega (arith, h.high);
       offers = h.offers;
-      best = λ n r a b g. ⊎_elim (λ w. let same = same_some (f (suc i)) q r e (ap f (sym w) ∙ g) in subst (λ x. better order x s.pair ≡ false) same t) (λ l. h.best n r a l g) (up_to n i b);
+      best = λ n r a b g. ⊎_elim (λ w. let same = same_Some q r (sym e ∙ ap f (sym w) ∙ g) in subst (λ x. better order x s.pair ≡ false) same t) (λ l. h.best n r a l g) (up_to n i b);
       first = h.first;
     }
 
@@ -70,7 +65,7 @@ module _ {A : Type 0} (order : A → A → Bool) (f : ℕ → Option (Pair A))
           high = omega arith;
           offers = e;
           best = λ n r a b g. ⊎_elim
-              (λ w. let same = same_some (f (suc i)) q r e (ap f (sym w) ∙ g) in subst (λ x. better order x q ≡ false) same (better_irrefl order q (either (suc i) (suc i) q q e e)))
+              (λ w. let same = same_Some q r (sym e ∙ ap f (sym w) ∙ g) in subst (λ x. better order x q ≡ false) same (better_irrefl order q (either (suc i) (suc i) q q e e)))
               (λ l. better_one_way order q r (either (suc i) n q r e g) (beats n r a l g)) (up_to n i b);
           first = λ n r a l g. beats n r a (omega arith) g;
         }
@@ -81,13 +76,13 @@ module _ {A : Type 0} (order : A → A → Bool) (f : ℕ → Option (Pair A))
       high = omega arith;
       offers = e;
       best = λ n r a b g. ⊎_elim
-          (λ w. let same = same_some (f (suc i)) q r e (ap f (sym w) ∙ g) in subst (λ x. better order x q ≡ false) same (better_irrefl order q (either (suc i) (suc i) q q e e)))
+          (λ w. let same = same_Some q r (sym e ∙ ap f (sym w) ∙ g) in subst (λ x. better order x q ≡ false) same (better_irrefl order q (either (suc i) (suc i) q q e e)))
           (λ l. absurd (h n r a l g)) (up_to n i b);
       first = λ n r a l g. absurd (h n r a (omega arith) g);
     }
 
     chosen_least : (i : ℕ) (o : Option (Step A)) (p : Option (Pair A)) → f (suc i) ≡ p → Scanned order f i o → Scanned order f (suc i) (choose order o (suc i) p)
-    chosen_least i None None e h = λ n q a b g. ⊎_elim (λ w. absurd (clash (f (suc i)) q e (ap f (sym w) ∙ g))) (λ l. h n q a l g) (up_to n i b)
+    chosen_least i None None e h = λ n q a b g. ⊎_elim (λ w. absurd (none-some q (sym e ∙ ap f (sym w) ∙ g))) (λ l. h n q a l g) (up_to n i b)
     chosen_least i (Some s) None e h = keeps_none i s e h
     chosen_least i None (Some q) e h = starts i q e h
     chosen_least i (Some s) (Some q) e h =

@@ -10,3 +10,6 @@ pub mod Rights
 pub mod Runs
 pub mod Worthlesses
 pub mod Computed
+pub mod Ends
+pub mod Exacts
+pub mod OneReply

@@ -3,6 +3,7 @@ use Rattle.std.proofs.Common.{◌≡◌, ℕ, ◌+◌, ◌-◌, ◌<◌, ◌≤�
 use mathlib.Core.List.{foldl-append}
 use Rattle.std.proofs.lemmas.Bool.Decides.{nat_tests}
 use Rattle.std.proofs.lemmas.Bool.{cases_Bool, cases_lt, both_ways, leb-true, le-leb}
+use Rattle.std.proofs.lemmas.Option.{none-some, cond_some}
 use Rattle.std.proofs.lemmas.List.{length_push, nil_from_length}
 use Rattle.total.specs.Laws.{Held, none, one, both, Laws, limit}
 use Rattle.reducer.specs.Chains.{Task, Lawful, Chain, alone, more, total, Best, Turns, Cut, Entry, origin, unreached, reached, Filled}
@@ -23,12 +24,6 @@ pub record Sound {A : Type 0} (k : Task A) (n : ℕ) : Type 0 where
 pub sound : {A : Type 0} (k : Task A) (n m : ℕ) → Laws k.start k.value k.join k.order → ((i j e : ℕ) → k.error i j ≡ Some e → (1 ≤ i) × (i < j) × (j ≤ n)) →
     m ≡ n → m ≤ 512 → k.tolerance ≤ limit → Sound k n
 sound k n m laws within e few le = record { laws = laws; few = omega arith; within = within; tolerated = le }
-
-none_some : {X : Type 0} (x : X) → None ≡ Some x → ⊥
-none_some x e = let z : ◌≡◌ {A = ℕ} 0 1 = cc in omega arith
-
-some_same : {X : Type 0} (x y : X) → Some x ≡ Some y → x ≡ y
-some_same x y e = cc
 
 module _ {A : Type 0} (k : Task A) (n : ℕ) (ok : Sound k n) where
   pub total_push : (es : List ℕ) (e : ℕ) → total k (es ++ (e ∷ [])) ≡ k.join (total k es) (k.value e)
@@ -117,13 +112,11 @@ module _ {A : Type 0} (k : Task A) (n : ℕ) (ok : Sound k n) where
     pub is : q ≡ pair (m + 1) (k.join t (k.value chord))
 
   made : (m : ℕ) (t : A) (b : Bool) (x : Option ℕ) (q : Pair A) → cond b (extend k m t x) None ≡ Some q → Made m t b x q
-  made m t false x q h = absurd (none_some q h)
-  made m t true None q h = absurd (none_some q h)
+  made m t false x q h = absurd (none-some q h)
+  made m t true None q h = absurd (none-some q h)
   made m t true (Some e) q h =
-      ⊎_elim
-      (λ l. record { open_way = refl; chord = e; answers = refl; allowed = leb-true e k.tolerance l; is = sym (some_same _ _ (sym (ap (λ b. cond b (Some (pair (m + 1) (k.join t (k.value e)))) None) l) ∙ h)) })
-      (λ l. absurd (none_some q (sym (ap (λ b. cond b (Some (pair (m + 1) (k.join t (k.value e)))) None) l) ∙ h)))
-      (cases_Bool (leb e k.tolerance))
+      let l = cond_some (leb e k.tolerance) (pair (m + 1) (k.join t (k.value e))) q h in
+      record { open_way = refl; chord = e; answers = refl; allowed = leb-true e k.tolerance l.0; is = sym l.1 }
 
   offers : (m : ℕ) (t : A) (b : Bool) (x : Option ℕ) (e : ℕ) → b ≡ true → x ≡ Some e → e ≤ k.tolerance → cond b (extend k m t x) None ≡ Some (pair (m + 1) (k.join t (k.value e)))
   offers m t b x e hb hx he = rw (hb, hx, le-leb e k.tolerance he)

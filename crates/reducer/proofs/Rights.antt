@@ -72,7 +72,7 @@ module _ {A : Type 0} (g : Ghosts A) (m : Meaning) (stroke : List Point) (tol : 
           sums = same.1 ∙ total_push k (length stroke) ok u.errors u.error;
         }
 
-    kept_to : {ks : List ℕ} {j : ℕ} → chains.Kept k ks j → Kept stroke r ks j
+    pub kept_to : {ks : List ℕ} {j : ℕ} → chains.Kept k ks j → Kept stroke r ks j
     kept_to chains.first = first
     kept_to (chains.next {ks = ks} {i = i} {j = j} {m = c} {t = t} q h u f) = next (kept_to q) (turns_to i j c t h u) (λ p l v. f p l (turns_from p j c t h v))
 
@@ -96,13 +96,13 @@ module _ {A : Type 0} (g : Ghosts A) (m : Meaning) (stroke : List Point) (tol : 
           least = λ ls fs y e. let s = chain_points y in subst (λ v. k.order v (total k fs) ≡ true) (sym q.sums) (q.best.least ls fs y (omega arith));
         }
 
-    answered_size : (count : ℕ) (t : A) (ks : List ℕ) → 1 ≤ count → Answered k (length stroke) (count - 1) t ks → length ks ≡ count
+    pub answered_size : (count : ℕ) (t : A) (ks : List ℕ) → 1 ≤ count → Answered k (length stroke) (count - 1) t ks → length ks ≡ count
     answered_size count t ks low q = let size = chain_points q.lawful in let chords = q.chords in omega arith
 
 module _ {A : Type 0} (g : Ghosts A) (m : Meaning) (stroke : List Point) (tol : ℕ) (b a : Lent A)
     (laws : Laws g.start g.value g.join g.order) (few : length stroke ≤ 512)
     (within : (i j e : ℕ) → m stroke i j ≡ Some e → (1 ≤ i) × (i < j) × (j ≤ length stroke)) where
-  sound : tol ≤ limit → Sound (task g (m stroke) tol) (length stroke)
+  pub sound : tol ≤ limit → Sound (task g (m stroke) tol) (length stroke)
   sound h = record { laws = laws; few = few; within = within; tolerated = h }
 
   -- a refusal before the search

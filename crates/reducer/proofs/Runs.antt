@@ -74,37 +74,40 @@ two_agree h g a b stroke r w m n same le = wider stroke r w (a stroke r m) (b st
 made_run : (h : History) (pen : Pen) (stroke : List Point) → Drawn h pen stroke → EachRight h → Run h pen stroke
 made_run h pen stroke d a = record { drawn = d; each = a; alone = two_agree h h a a; beside = λ g b. (two_agree h g a b, two_agree g h b a) }
 
-each_more : (h : History) (c : Call) → ((r : Reduction) → c ≡ reduce r → ⊥) → EachRight h → EachRight (h ▸ c)
-each_more h c p a stroke r m = ⊎_elim (λ q. a stroke r q) (λ q. absurd (p r q.0)) (met_more h c stroke r m)
+-- what holds of each reduce of a history goes on holding
+module _ (P : List Point → Reduction → Type 0) where
+  abbrev pub Each : History → Type 0
+  Each h = (stroke : List Point) (r : Reduction) → Met h stroke r → P stroke r
 
-same_reduction : (r w : Reduction) → ◌≡◌ {A = Call} (reduce r) (reduce w) → r ≡ w
-same_reduction r w e = cc
+  pub each_more : (h : History) (c : Call) → ((r : Reduction) → c ≡ reduce r → ⊥) → Each h → Each (h ▸ c)
+  each_more h c p a stroke r m = ⊎_elim (λ q. a stroke r q) (λ q. absurd (p r q.0)) (met_more h c stroke r m)
 
-each_reduce : (h : History) (ps : List Point) (w : Reduction) → Drawn h up ps → Right ps w → EachRight h → EachRight (h ▸ reduce w)
-each_reduce h ps w d x a stroke r m = ⊎_elim (λ q. a stroke r q)
-    (λ q. let P : List Point → Type 0 = λ qs. Right qs r in
-    let Q : Reduction → Type 0 = λ v. Right ps v in
-    subst P (same_stroke h ps stroke d q.1) (subst Q (same_reduction w r q.0) x))
-    (met_more h (reduce w) stroke r m)
+  same_reduction : (r w : Reduction) → ◌≡◌ {A = Call} (reduce r) (reduce w) → r ≡ w
+  same_reduction r w e = cc
+
+  pub each_reduce : (h : History) (ps : List Point) (w : Reduction) → Drawn h up ps → P ps w → Each h → Each (h ▸ reduce w)
+  each_reduce h ps w d x a stroke r m = ⊎_elim (λ q. a stroke r q)
+      (λ q. subst (λ qs. P qs r) (same_stroke h ps stroke d q.1) (subst (λ v. P ps v) (same_reduction w r q.0) x))
+      (met_more h (reduce w) stroke r m)
+
+pub met_nothing : (stroke : List Point) (r : Reduction) → Met [] stroke r → ⊥
+met_nothing stroke r m = not_nil (reduce r) (reduce r) m.before m.after m.whole
 
 pub run_new : Run [] down []
-run_new = made_run [] down [] fresh (λ stroke r m. absurd (nothing stroke r m))
-  where
-    nothing : (stroke : List Point) (r : Reduction) → Met [] stroke r → ⊥
-    nothing stroke r m = not_nil (reduce r) (reduce r) m.before m.after m.whole
+run_new = made_run [] down [] fresh (λ stroke r m. absurd (met_nothing stroke r m))
 
-no_reduce : (c : Call) → NoReduce c → (r : Reduction) → c ≡ reduce r → ⊥
+pub no_reduce : (c : Call) → NoReduce c → (r : Reduction) → c ≡ reduce r → ⊥
 no_reduce c n r e = subst NoReduce e n
 
 run_on : (s : State) (c : Call) → NoReduce c → Permits s.pen c → GoesOn s c (step s c)
 run_on s c n q h l =
-    made_run (h ▸ c) (step s c).pen (step s c).points (drawn_step s.pen s.points c q l.drawn) (each_more h c (no_reduce c n) l.each)
+    made_run (h ▸ c) (step s c).pen (step s c).points (drawn_step s.pen s.points c q l.drawn) (each_more Right h c (no_reduce c n) l.each)
 
 pub steps_go_on : StepsGoOn
 steps_go_on = record { begins = run_new; goes_on = run_on }
 
 pub run_reduce : (ps : List Point) (w : Reduction) → Right ps w → GoesOn (at_pen up ps) (reduce w) (at_pen up ps)
-run_reduce ps w x h l = made_run (h ▸ reduce w) up ps (reduced w l.drawn) (each_reduce h ps w l.drawn x l.each)
+run_reduce ps w x h l = made_run (h ▸ reduce w) up ps (reduced w l.drawn) (each_reduce Right h ps w l.drawn x l.each)
 
 pub law : (ps : List Point) (r : Reduction) → Right ps r → Law ps r
 law ps r x = record { right = x; narrower = λ w v same le. wider ps w r v x same le; wider = λ w v same le. wider ps r w x v same le }

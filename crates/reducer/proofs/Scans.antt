@@ -1,9 +1,8 @@
--- The step of a scan, and what is held of a point.
-use Rattle.std.proofs.Common.{◌≡◌, ℕ, zero, suc, ◌+◌, ◌-◌, ◌≤◌, Bool, true, false, List, get_or, Some, None, Option, refl, sym, ap, ◌∙◌, arith}
+-- The step of a scan, and what is entered of what it found.
+use Rattle.std.proofs.Common.{◌≡◌, ℕ, zero, suc, ◌+◌, ◌-◌, ◌≤◌, Bool, Some, None, Option, refl, sym, ap, ◌∙◌, arith}
 use Rattle.std.specs.Option.{unwrap_or}
 use Rattle.reducer.specs.declared.step.Step.{Step}
-use Rattle.reducer.specs.Scan.{choose, scan, held, reached, entered, no_step}
-use Rattle.total.specs.Pairs.{pair}
+use Rattle.reducer.specs.Scan.{choose, scan, entered, no_step}
 use Rattle.total.specs.declared.pair.Pair.{Pair}
 
 pub scan_more : {A : Type 0} (order : A → A → Bool) (f : ℕ → Option (Pair A)) (i : ℕ) → 1 ≤ i → choose order (scan order f (i - 1)) i (f i) ≡ scan order f (i + 1 - 1)
@@ -12,13 +11,6 @@ scan_more order f (suc i) h =
     let before : suc i - 1 ≡ i = omega arith in
     let after : suc i + 1 - 1 ≡ suc i = omega arith in
     ap (λ n. choose order (scan order f n) (suc i) (f (suc i))) before ∙ sym (ap (scan order f) after)
-
-module _ {A : Type 0} (start : A) (cs : List ℕ) (ts : List A) (i : ℕ) where
-  pub held_none : held start cs ts i ≡ None → reached i (get_or cs (i - 1) 0) ≡ false
-  held_none h = grind arith
-
-  pub held_some : (p : Pair A) → held start cs ts i ≡ Some p → (reached i (get_or cs (i - 1) 0) ≡ true) × (p ≡ pair (get_or cs (i - 1) 0) (get_or ts (i - 1) start))
-  held_some p h = (grind arith, grind arith)
 
 pub entered_by : {A : Type 0} (start : A) (o : Option (Step A)) → unwrap_or o (no_step start) ≡ entered start o
 entered_by start None = refl

@@ -1,14 +1,11 @@
 -- The predecessors lead back along the kept chain.
-use Rattle.std.proofs.Common.{◌≡◌, ℕ, zero, suc, ◌+◌, ◌-◌, ◌<◌, ◌≤◌, true, ◌||◌, eqb, ltb, List, [], ◌∷◌, ◌++◌, length, get_or, Some, sym, refl, ap, ◌∙◌, subst, ⊎_elim, arith}
+use Rattle.std.proofs.Common.{◌≡◌, ℕ, zero, suc, ◌+◌, ◌-◌, ◌<◌, ◌≤◌, true, ◌||◌, eqb, ltb, List, [], ◌∷◌, ◌++◌, length, get_or, sym, refl, ap, ◌∙◌, subst, ⊎_elim, arith}
 use Rattle.std.proofs.lemmas.Bool.Decides.{nat_tests}
 use Rattle.std.proofs.lemmas.Bool.{cases_Bool}
 use Rattle.std.proofs.lemmas.List.{length_push}
 use Rattle.reducer.specs.Chains.{Task, Chain, alone, more, Best, Turns, Entry, origin, unreached, reached, Filled, Kept, first, next, Answered}
 use Rattle.reducer.specs.Trail.{trail, Led}
-use Rattle.reducer.specs.Scan.{held}
-use Rattle.total.specs.declared.pair.Pair.{Pair}
-use Rattle.reducer.proofs.Scans.{held_some}
-use Rattle.reducer.proofs.Optimal.{Sound, entry_best, entry_cut, best_unique, best_first, total_push, entry_few}
+use Rattle.reducer.proofs.Optimal.{Sound, entry_best, entry_cut, best_unique, best_first, total_push}
 
 module _ {A : Type 0} (k : Task A) (n : ℕ) (ok : Sound k n) (cs ps : List ℕ) (ts : List A) (room : n ≤ length ps) (filled : Filled k n cs ps ts) where
   abbrev count : ℕ → ℕ
@@ -75,16 +72,3 @@ module _ {A : Type 0} (k : Task A) (n : ℕ) (ok : Sound k n) (cs ps : List ℕ)
         subst (λ x. Led ps m x) up r.0,
         subst (λ x. Answered k n (count m + 1 - 1) (sum m) (trail ps m x)) up (subst (λ x. Answered k n x (sum m) (trail ps m (suc (count m)))) down (subst (λ x. Answered k x (count m) (sum m) (trail ps m (suc (count m)))) e r.1)),
       )
-
-  -- what the code knows where the tables hold a pair of the last point
-  pub record Ended (m : ℕ) (p : Pair A) : Type 0 where
-    pub few : p.chords < 512
-    pub led : Led ps m (p.chords + 1)
-    pub answered : Answered k n (p.chords + 1 - 1) p.total (trail ps m (p.chords + 1))
-
-  pub ended : (m : ℕ) → m ≡ n → 1 ≤ m → (p : Pair A) → held k.start cs ts m ≡ Some p → Ended m p
-  ended m e low p h =
-      let q = held_some k.start cs ts m p h in
-      let w = walked m e low q.0 in
-      let few = entry_few k n ok m _ _ _ (filled m low (omega arith)) in
-      subst (λ (x : Pair A). Ended m x) (sym q.1) (record { few = few; led = w.0; answered = w.1 })

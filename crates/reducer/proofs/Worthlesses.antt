@@ -1,5 +1,6 @@
 -- The law shuts out each worthless reply, and a stroke has one kept chain.
 use Rattle.std.proofs.Common.{◌≡◌, ℕ, ◌<◌, ◌≤◌, Bool, List, [], ◌∷◌, ◌++◌, length, Some, Option, sym, refl, ap, ◌∙◌, subst, ⊎_elim, arith}
+use Rattle.std.proofs.lemmas.Option.{same_Some}
 use Rattle.std.proofs.lemmas.Bool.{both_ways, cases_order}
 use Rattle.std.proofs.lemmas.List.{length_push, same_from_push}
 use Rattle.tray.specs.declared.point.Point.{Point}
@@ -7,9 +8,6 @@ use Rattle.reducer.specs.Chains.{LawfulChain, alone, more}
 use Rattle.tray.specs.Reductions.{Reduction, Reply, answered}
 use Rattle.reducer.specs.Law.{Turns, Kept, first, next, Keeps, KeepsIfAnswered, IsAnswered, SaysNoWay, Right}
 use Rattle.reducer.specs.Worthless.{ShutOut, OneKept}
-
-some_same : {X : Type 0} (o : Option X) (x y : X) → o ≡ Some x → o ≡ Some y → x ≡ y
-some_same o x y p q = cc
 
 two : (x y : List ℕ) → length x ≡ 1 → length y ≡ 2 → x ≡ y → ⊥
 two x y a b e = let z = ap length e in omega arith
@@ -28,7 +26,7 @@ module _ (error : ℕ → ℕ → Option ℕ) (t : ℕ) where
       let s = same_from_push ks ks' j j' q in
       let r = chain_errors c c' s.0 in
       let o : error i j ≡ error i' j' = ap (λ x. error x j) r.0 ∙ ap (error i') s.1 in
-      let x : e ≡ e' = some_same (error i j) e e' l.0 (o ∙ l'.0) in
+      let x : e ≡ e' = same_Some e e' (sym l.0 ∙ o ∙ l'.0) in
       (s.1, ap (λ z. es ++ (z ∷ [])) x ∙ ap (λ zs. zs ++ (e' ∷ [])) r.1)
 
   -- the chord of two ends

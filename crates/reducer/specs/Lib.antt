@@ -9,3 +9,4 @@ pub mod Recorded
 pub mod Worthless
 pub mod Reduced
 pub mod Asked
+pub mod Exact

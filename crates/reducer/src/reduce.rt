@@ -10,6 +10,7 @@ ghost use Rattle.reducer.specs.Outcome.{Outcome};
 ghost use Rattle.reducer.specs.Recorded.{reduction};
 ghost use Rattle.reducer.specs.Law.{Law};
 ghost use Rattle.reducer.specs.Runs.{GoesOn, StepsGoOn};
+ghost use Rattle.reducer.specs.Exact.{Exact, ExactGoesOn, ExactStepsGoOn, OneReply};
 ghost use Rattle.reducer.specs.Worthless.{ShutsOut, OneKept};
 
 use crate::answer::Answer;
@@ -35,6 +36,9 @@ pub fn reduce<M: Measure, T: Total>(
     ensures law { Law (stroke_of stroke.now) (reduction T.Total (M.Measure.meaning measure.now) tolerance (lent counts.old preds.old totals.old list.old) (lent counts.new preds.new totals.new list.new) result) }
     ensures runs { GoesOn (lifted stroke.now) (calls_reduce (reduction T.Total (M.Measure.meaning measure.now) tolerance (lent counts.old preds.old totals.old list.old) (lent counts.new preds.new totals.new list.new) result)) (lifted stroke.now) }
     ensures other_calls { StepsGoOn }
+    ensures exact { Exact (stroke_of stroke.now) (reduction T.Total (M.Measure.meaning measure.now) tolerance (lent counts.old preds.old totals.old list.old) (lent counts.new preds.new totals.new list.new) result) }
+    ensures exact_runs { ExactGoesOn (lifted stroke.now) (calls_reduce (reduction T.Total (M.Measure.meaning measure.now) tolerance (lent counts.old preds.old totals.old list.old) (lent counts.new preds.new totals.new list.new) result)) (lifted stroke.now) }
+    ensures other_calls_exact { ExactStepsGoOn }
 {
     let search = Search {
         stroke,
@@ -49,10 +53,11 @@ pub fn reduce<M: Measure, T: Total>(
     search.run(&mut tables, list)
 }
 
-// The law shuts out each reducer that is of no worth, and a stroke has one kept chain.
+// The law shuts out each reducer that is of no worth, a stroke has one kept chain, and a reduce one reply that is right and exact.
 pub fn law_shuts_out() -> u8
     ensures worthless { ShutsOut }
     ensures one_kept { OneKept }
+    ensures one_reply { OneReply }
 {
     0
 }

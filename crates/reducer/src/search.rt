@@ -1,12 +1,11 @@
 // The search: for each point in turn the best chord into it, from what is known of the points before it.
-ghost use Rattle.std.specs.Prelude.{◌≡◌, ℕ, ◌-◌, ◌<◌, ◌≤◌, [], length, slice_index};
+ghost use Rattle.std.specs.Prelude.{◌≡◌, ℕ, ◌-◌, ◌<◌, ◌≤◌, length, slice_index};
 ghost use Rattle.tray.specs.Trays.{stroke as stroke_of};
 ghost use Rattle.total.specs.Laws.{limit};
 ghost use Rattle.reducer.specs.Chains.{Relaxed};
 ghost use Rattle.reducer.specs.Scan.{offer, choose, scan};
-ghost use Rattle.reducer.specs.Lent.{Room};
 ghost use Rattle.reducer.specs.Outcome.{Outcome};
-ghost use Rattle.reducer.specs.Asked.{asked, lent_with, SameTables};
+ghost use Rattle.reducer.specs.Asked.{asked, lent_with, HasRoom, SameTables};
 
 use crate::answer::Answer;
 use crate::step::Step;
@@ -47,7 +46,9 @@ impl<M: Measure> Search<'_, M> {
 
     // What the chord from i to j offers to j, after the best chain to i.
     fn offer<T: Total>(&self, tables: &Tables<T>, i: usize, j: usize) -> Option<Pair<T>>
-        requires { (1 ≤ i) × (i ≤ length tables.now.counts.now) × (i ≤ length tables.now.totals.now) × (slice_index tables.now.counts.now (i - 1) < 512) }
+        requires low { 1 ≤ i }
+        requires room { HasRoom i tables.now }
+        requires few { slice_index tables.now.counts.now (i - 1) < 512 }
         ensures { result ≡ offer (asked T.Total M.meaning self.now) tables.now.counts.now tables.now.totals.now j i }
     {
         let before = tables.pair(i)?;
@@ -63,7 +64,10 @@ impl<M: Measure> Search<'_, M> {
 
     // The best chord into j from a point before it; the earliest of equals.
     fn best_step<T: Total>(&self, tables: &Tables<T>, j: usize) -> Option<Step<T>>
-        requires { (1 ≤ j) × (j ≤ 512) × (j ≤ length tables.now.counts.now) × (j ≤ length tables.now.totals.now) × ((i : ℕ) → 1 ≤ i → i < j → slice_index tables.now.counts.now (i - 1) < 512) }
+        requires low { 1 ≤ j }
+        requires high { j ≤ 512 }
+        requires room { HasRoom j tables.now }
+        requires few { (i : ℕ) → 1 ≤ i → i < j → slice_index tables.now.counts.now (i - 1) < 512 }
         ensures { result ≡ scan T.order (offer (asked T.Total M.meaning self.now) tables.now.counts.now tables.now.totals.now j) (j - 1) }
     {
         let mut found = None;
@@ -76,7 +80,7 @@ impl<M: Measure> Search<'_, M> {
     // Fills the tables up to the stroke's last point.
     fn relax<T: Total>(&self, tables: &mut Tables<T>)
         requires tolerated { self.now.tolerance ≤ limit }
-        requires room { Room (length (stroke_of self.now.stroke.now)) (lent_with tables.old []) }
+        requires room { HasRoom (length (stroke_of self.now.stroke.now)) tables.old }
         ensures same { SameTables tables.old tables.new }
         ensures relaxed { Relaxed (asked T.Total M.meaning self.now) (length (stroke_of self.now.stroke.now)) tables.old.counts.now tables.old.preds.now tables.old.totals.now tables.new.counts.now tables.new.preds.now tables.new.totals.now }
     {

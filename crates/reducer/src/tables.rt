@@ -3,14 +3,14 @@ ghost use Rattle.std.specs.Prelude.{◌≡◌, ◌-◌, ◌≤◌, [], length, s
 ghost use Rattle.reducer.specs.Scan.{held};
 ghost use Rattle.reducer.specs.Trail.{trail, Led};
 ghost use Rattle.reducer.specs.Reduced.{short};
-ghost use Rattle.reducer.specs.Asked.{lent_with, SameTables};
+ghost use Rattle.reducer.specs.Asked.{lent_with, HasRoom, SameTables};
 
 use crate::step::Step;
 use total::pair::Pair;
 use total::total::Total;
 
 // The chords of each point's best chain, the point before it there, and the chain's total.
-// A rule of the project: the tables are lent by the caller, and a count of 0 past the first point says that no chain leads there.
+// A rule of the project: the caller lends the tables, and a count of 0 past the first point says that no chain leads there.
 #[derive(Drop)]
 pub(crate) struct Tables<'a, T> {
     pub(crate) counts: &'a mut [u16],
@@ -28,7 +28,8 @@ impl<T: Total> Tables<'_, T> {
 
     // The best pair of the point i, where a chain leads to it.
     pub(crate) fn pair(&self, i: usize) -> Option<Pair<T>>
-        requires { (1 ≤ i) × (i ≤ length self.now.counts.now) × (i ≤ length self.now.totals.now) }
+        requires low { 1 ≤ i }
+        requires room { HasRoom i self.now }
         ensures { result ≡ held T.start self.now.counts.now self.now.totals.now i }
     {
         let chords = self.counts[i - 1];
@@ -43,7 +44,8 @@ impl<T: Total> Tables<'_, T> {
 
     // Writes what is known of the point i.
     pub(crate) fn set(&mut self, i: usize, step: Step<T>)
-        requires { (1 ≤ i) × (i ≤ length self.old.counts.now) × (i ≤ length self.old.preds.now) × (i ≤ length self.old.totals.now) }
+        requires low { 1 ≤ i }
+        requires room { HasRoom i self.old }
         ensures same { SameTables self.old self.new }
         ensures counts { self.new.counts.now ≡ slice_set self.old.counts.now (i - 1) step.pair.chords }
         ensures preds { self.new.preds.now ≡ slice_set self.old.preds.now (i - 1) step.from }
@@ -60,6 +62,7 @@ impl<T: Total> Tables<'_, T> {
         ensures { list.new ≡ trail self.now.preds.now last (length list.old) }
     {
         let mut at = last;
+        // By index: of a slice's iter_mut a proof knows the length alone.
         for left in (0..list.len()).rev() {
             list[left] = at;
             at = self.preds[at as usize - 1];

@@ -12,13 +12,13 @@ best_step-found-requires g c =
     let ok = sound k (length ps) c.points-j-end.result g.met.T.Total.lawful (g.met.M.Measure.within c.args.self.now.measure.now ps) c.points-j-end.ensures.value c.points-j-end.ensures.few c.requires.tolerated in
     let same = c.loop-j.invariant.0 in
     let room = c.requires.room in
-    let high : c.loop-j.j ≤ length ps = omega (arith, c.loop-j-test.true, c.points-j-end.ensures.value) in (
-      c.loop-j.auto.j,
-      omega (arith, high, ok.few),
-      omega (arith, high, same.long_counts, room.0),
-      omega (arith, high, same.long_totals, room.2),
-      λ i a b. entry_few k (length ps) ok i _ _ _ (c.loop-j.invariant.1.filled i a (omega arith)),
-    )
+    let high : c.loop-j.j ≤ length ps = omega (arith, c.loop-j-test.true, c.points-j-end.ensures.value) in
+    record {
+      low = c.loop-j.auto.j;
+      high = omega (arith, high, ok.few);
+      room = (omega (arith, high, same.long_counts, room.0), omega (arith, high, same.long_preds, room.1), omega (arith, high, same.long_totals, room.2));
+      few = λ i a b. entry_few k (length ps) ok i _ _ _ (c.loop-j.invariant.1.filled i a (omega arith));
+    }
 
 pub loop-j-preserved : goal.loop-j-preserved
 loop-j-preserved g c =
