@@ -36,7 +36,7 @@ impl Answered {
         match &self.reply {
             Ok(kept) => writer.append_kept(page, self.number, kept.totals, kept.numbers()),
             Err(refusal) => {
-                let told = refusal.told();
+                let told = Told::from(*refusal);
                 writer.append_refused(page, self.number, told.number, told.place as u16)
             }
         }

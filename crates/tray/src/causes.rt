@@ -43,13 +43,3 @@ impl From<Refusal> for Told {
         }
     }
 }
-
-impl Refusal {
-    // The number, the place and the layer that the refusal tells.
-    pub fn told(self) -> Told
-        ensures value { result ≡ told_of self }
-        ensures near { result.place < 65536 }
-    {
-        Told::from(self)
-    }
-}
