@@ -6,6 +6,7 @@
 --   page_text      what is printed of a page
 --   longest        how many bytes a page may have
 --   long_page      what is told of an input with more
+--   refused_input  what is told of an input that is refused, by the cause
 --   program_text   what is printed of an input
 --   LinesInTurn    strokes on a page print what each of them prints alone, in turn, and nothing else
 use Rattle.std.specs.Prelude.{◌≡◌, ℕ, ◌≤◌, cond, List, [], ◌∷◌, ◌++◌, length, nat_lt}
@@ -18,6 +19,8 @@ use Rattle.page.specs.Strokes.{Stroke, page_bytes}
 use Rattle.page.specs.Fits.{StrokeFits}
 use Rattle.page.specs.Steps.{Reading, Ending, accepted, refused_by, reading}
 use Rattle.job.specs.Jobs.{line_of}
+use Rattle.lines.specs.declared.output.InputCause.{InputCause}
+use Rattle.lines.specs.declared.output.InputCause.TheVariants.{TooLong}
 use Rattle.lines.specs.Text.{line_text}
 
 abbrev pub with_feed : List ℕ → List ℕ
@@ -41,6 +44,9 @@ longest = 65536
 
 abbrev pub long_page : Told
 long_page = at_layer Program 17 longest
+
+abbrev pub refused_input : InputCause → Told
+refused_input TooLong = long_page
 
 abbrev pub program_text : List ℕ → List ℕ
 program_text bs = cond (nat_lt longest (length bs)) (with_feed (refusal_text long_page)) (page_text bs)

@@ -1,6 +1,6 @@
 // Everything that the program prints: a line for each stroke of a page, and one more where the page is refused.
 ghost use Rattle.std.specs.Prelude.{◌≡◌, ℕ, ◌≤◌, List, ◌++◌, length, Some, IfOk, string_bytes, OnOk};
-ghost use Rattle.lines.specs.Output.{with_feed, page_text, long_page, program_text, LinesInTurn};
+ghost use Rattle.lines.specs.Output.{with_feed, page_text, refused_input, program_text, LinesInTurn};
 
 use crate::line::StrokeLine;
 use job::job::Job;
@@ -11,14 +11,21 @@ use std::fmt;
 // How many bytes a page may have. The answers of such a page need no more.
 pub const LONGEST: usize = 65536;
 
-// The refusal of an input that is too long for a page.
-fn too_long() -> Told
-    ensures { result ≡ long_page }
-{
-    Told {
-        number: 17,
-        place: LONGEST,
-        layer: Layer::Program,
+// Why the program refuses an input.
+#[derive(Clone, Copy, Debug, PartialEq, Eq)]
+pub enum InputCause {
+    TooLong = 17,
+}
+
+impl From<InputCause> for Told {
+    ghost from_gives = { λ cause told. told ≡ refused_input cause };
+
+    fn from(cause: InputCause) -> Told {
+        Told {
+            number: cause as u16,
+            place: LONGEST,
+            layer: Layer::Program,
+        }
     }
 }
 
@@ -52,7 +59,7 @@ fn text_of(heap: Global, input: &[u8]) -> Result<String, AllocError>
 {
     let mut text = String::new(heap);
     if input.len() > LONGEST {
-        push_line(&mut text, &too_long())?;
+        push_line(&mut text, &Told::from(InputCause::TooLong))?;
         return Ok(text);
     }
     let mut answers = vec![in heap; 0u8; LONGEST]?;

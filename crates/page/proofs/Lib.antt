@@ -1,7 +1,5 @@
 -- The laws that the proofs of the functions cite, each file after those it uses.
 pub mod Bytes
-pub mod Digits
-pub mod Fronts
 pub mod Framing
 pub mod Refusing
 pub mod Stepping

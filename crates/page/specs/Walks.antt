@@ -1,16 +1,17 @@
 -- What the code's answers stand for, in the words of a reading.
 --   rec_of      a record of the code, with its payload as a list
---   shown       a record or none
+--   alone_of    the answer for a payload of a kind: its record, with nothing behind it
 --   front_of    the answer for the record at the front
 --   looked_of   a look's answer
 --   InPlace     a record that is looked at tells its place, and its payload is the part of the page behind its length and its kind
 --   seen        a step's answer, with where it leaves the walk
 --   Falls       a step that says something of a stroke leaves fewer bytes
 --   Parts       a step is made where it belongs, and leads where it should; a refused one moves nothing
-use Rattle.std.specs.Prelude.{◌≡◌, ℕ, ◌<◌, List, take, drop, Some, None, Ok, Err, Option, Result}
+use Rattle.std.specs.Prelude.{◌≡◌, ℕ, ◌<◌, List, [], take, drop, Some, None, Ok, Err, Option, Result}
 use Rattle.std.specs.Borrow.{Bor}
 use Rattle.refusal.specs.declared.Told.{Told}
 use Rattle.refusal.specs.Said.{said}
+use Rattle.page.specs.declared.fault.PageCause.{PageCause}
 use Rattle.page.specs.declared.fault.PageFault.{PageFault}
 use Rattle.page.specs.declared.kinds.Record.{Record}
 use Rattle.page.specs.declared.kinds.Record.TheVariants.{Start, Plain, Corner, Order}
@@ -29,9 +30,10 @@ rec_of (Plain p) = plain_rec p.now
 rec_of (Corner p) = corner_rec p.now
 rec_of (Order p) = order_rec p.now
 
-abbrev pub shown : Option Record → Option Rec
-shown (Some r) = Some (rec_of r)
-shown None = None
+-- a record with nothing behind it
+abbrev pub alone_of : Result Record PageCause → Front
+alone_of (Ok r) = one (rec_of r) []
+alone_of (Err c) = bad c
 
 abbrev pub front_of : Result (Placed × Bor (List ℕ)) PageFault → Front
 front_of (Ok x) = one (rec_of x.0.record) x.1.now

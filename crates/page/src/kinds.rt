@@ -5,10 +5,10 @@ use tray::point::Mark;
 // A record by its kind, with its payload, which is still a part of the page.
 #[derive(Clone, Copy)]
 pub enum Record<'a> {
-    Start(&'a [u8]),
-    Plain(&'a [u8]),
-    Corner(&'a [u8]),
-    Order(&'a [u8]),
+    Start(&'a [u8; 4]),
+    Plain(&'a [u8; 8]),
+    Corner(&'a [u8; 8]),
+    Order(&'a [u8; 14]),
 }
 
 // A record, and the place of its first byte on the page.

@@ -1,35 +1,30 @@
 // The record at the front of the bytes that are left.
-ghost use Rattle.std.specs.Prelude.{◌≡◌, MatchResult};
-ghost use Rattle.page.specs.Records.{size_of, known, front};
-ghost use Rattle.page.specs.Walks.{rec_of, shown, front_of};
+ghost use Rattle.std.specs.Prelude.{◌≡◌, ◌≢◌, length, MatchResult};
+ghost use Rattle.page.specs.declared.fault.PageCause.TheVariants.{WrongLength};
+ghost use Rattle.page.specs.Records.{known, sized, front};
+ghost use Rattle.page.specs.Walks.{alone_of, front_of};
 
 use crate::fault::{PageCause, PageFault};
 use crate::kind::Kind;
 use crate::kinds::{Placed, Record};
 
-// The record of a kind that a page of strokes has.
-fn of_kind<'a>(kind: u16, bytes: &'a [u8]) -> Option<Record<'a>>
-    ensures { shown result ≡ known kind bytes.now }
+// A payload of N bytes.
+fn of_length<const N: usize>(payload: &[u8]) -> Result<&[u8; N], PageCause>
+    ensures { MatchResult result (λ p. (p.now ≡ payload.now) × (length payload.now ≡ N)) (λ c. (c ≡ WrongLength) × (length payload.now ≢ N)) }
 {
-    match Kind::try_from(kind) {
-        Ok(Kind::Start) => Some(Record::Start(bytes)),
-        Ok(Kind::Plain) => Some(Record::Plain(bytes)),
-        Ok(Kind::Corner) => Some(Record::Corner(bytes)),
-        Ok(Kind::Order) => Some(Record::Order(bytes)),
-        _ => None,
-    }
+    payload.try_into().map_err(|_| PageCause::WrongLength)
 }
 
-impl Record<'_> {
-    // How long a payload of its kind is.
-    fn size(self) -> usize
-        ensures { result ≡ size_of (rec_of self.entry) }
-    {
-        match self {
-            Record::Start(_) => 4,
-            Record::Plain(_) | Record::Corner(_) => 8,
-            Record::Order(_) => 14,
-        }
+// The record of this kind with this payload, or why a page of strokes has none.
+fn of_kind<'a>(kind: u16, payload: &'a [u8]) -> Result<Record<'a>, PageCause>
+    ensures { alone_of result ≡ sized (length payload.now) payload.now (known kind payload.now) }
+{
+    match Kind::try_from(kind) {
+        Ok(Kind::Start) => Ok(Record::Start(of_length(payload)?)),
+        Ok(Kind::Plain) => Ok(Record::Plain(of_length(payload)?)),
+        Ok(Kind::Corner) => Ok(Record::Corner(of_length(payload)?)),
+        Ok(Kind::Order) => Ok(Record::Order(of_length(payload)?)),
+        _ => Err(PageCause::StrangeKind),
     }
 }
 
@@ -50,11 +45,6 @@ pub(crate) fn first_record<'a>(
         return Err(PageCause::CutRecord.at(place));
     }
     let (payload, after) = tail.split_at(size);
-    let Some(record) = of_kind(kind, payload) else {
-        return Err(PageCause::StrangeKind.at(place));
-    };
-    if size != record.size() {
-        return Err(PageCause::WrongLength.at(place));
-    }
+    let record = of_kind(kind, payload).map_err(|cause| cause.at(place))?;
     Ok((Placed { record, place }, after))
 }

@@ -19,7 +19,6 @@ use tray::point::Mark;
 
 // What a record says between strokes or inside one.
 fn meaning(p: Placed, part: Part) -> Result<Step, PageFault>
-    requires { length (payload (rec_of p.record)) ≡ size_of (rec_of p.record) }
     ensures { said told result ≡ meant p.entry.place part (rec_of p.entry.record) }
 {
     let place = p.place;

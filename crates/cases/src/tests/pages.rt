@@ -83,7 +83,7 @@ fn record_is_looked_at_in_place(rt: HostRuntime) -> Result<(), Fail> {
     assert_eq!(rt; placed.place, 8);
     match placed.record {
         Record::Corner(payload) => {
-            assert_eq!(rt; payload, &STROKE[12..20]);
+            assert_eq!(rt; payload.as_slice(), &STROKE[12..20]);
             Ok(())
         },
         _ => Err(Fail::new("another kind")),

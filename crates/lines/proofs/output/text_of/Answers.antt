@@ -14,7 +14,7 @@ pub returns-then-input-gt-LONGEST : goal.returns-then-input-gt-LONGEST
 returns-then-input-gt-LONGEST c =
     let bs : List ℕ = c.args.input.now in
     let long : ltb longest (length bs) ≡ true = lt-ltb _ _ c.if-input-gt-LONGEST.true in
-    c.in_ok-push_line.ensures _ refl ∙ (λ i. c.new-text.ensures.bytes i ++ with_feed (refusal_text (c.too_long.ensures i))) ∙ sym (cond-true _ _ _ long)
+    c.in_ok-push_line.ensures _ refl ∙ (λ i. c.new-text.ensures.bytes i ++ with_feed (refusal_text (c.from.ensures i))) ∙ sym (cond-true _ _ _ long)
 
 pub returns : goal.returns
 returns c =

@@ -45,9 +45,6 @@ returns-in_err-step c =
 taken : (c : In_ok-placed) → Fronted c.args.self.now.rest.now (rec_of c.in_ok-placed.placed.record) c.in_ok-placed.after.now
 taken c = front_one _ _ _ (sym c.in_ok-placed.ensures.front)
 
-pub meaning-requires : goal.meaning-requires
-meaning-requires c = (taken (goal.at.meaning-requires c).In_ok-placed).size
-
 pub overflow_sub-self : goal.overflow_sub-self
 overflow_sub-self c = let t = taken (goal.at.overflow_sub-self c).In_ok-placed in omega arith
 
