@@ -15,7 +15,8 @@ use Rattle.measure.specs.declared.distance.Side.TheVariants.{Past, Along}
 use Rattle.measure.specs.Sides.{sided, risen}
 use Rattle.measure.specs.Ints.{abs_product}
 use Rattle.measure.specs.Runs.{greatest_small}
-use Rattle.measure.specs.Rounded.{rounded_least, rounded_serves}
+use Rattle.measure.specs.Rounded.{rounded_least}
+use Rattle.measure.proofs.Serves.{rounded_serves}
 use Rattle.measure.specs.Points.{on}
 use Rattle.measure.specs.Swept.{cross_small}
 use Rattle.measure.specs.Offs.{inside}
