@@ -1,5 +1,5 @@
 -- The distance error is the least that serves.
-use Rattle.std.specs.Prelude.{◌≡◌, ℕ, ◌+◌, ◌-◌, ◌*◌, ◌<◌, ◌≤◌, true, false, cond, List, ℤ, pos, ◌-ℤ◌, ◌*ℤ◌, ◌≤ℤ◌, ◌<ℤ◌, int_le, unsigned_abs}
+use Rattle.std.specs.Prelude.{◌≡◌, ℕ, ◌+◌, ◌-◌, ◌*◌, ◌<◌, ◌≤◌, cond, List, ℤ, pos, ◌-ℤ◌, ◌*ℤ◌, ◌≤ℤ◌, ◌<ℤ◌, int_le, unsigned_abs}
 use Rattle.std.proofs.Common.{sym, subst, le_trans, mul-le-mul_right, arith}
 use Rattle.std.proofs.lemmas.Int.{ints}
 use Rattle.tray.specs.declared.point.Point.{Point}
@@ -32,19 +32,13 @@ square_up c = rw (square_is c) (omega (arith, ints))
 
 module _ (s w a b c : ℤ) (e : ℕ) where
   at_start : off_by s w a b c ≤ e → s ≤ℤ pos 0 → unsigned_abs a ≤ e
-  at_start h k = let t : int_le s (pos 0) ≡ true = sym (omega (arith, ints)) in rw t at h
+  at_start h k = grind (arith, ints)
 
   at_end : off_by s w a b c ≤ e → pos 0 <ℤ s → w ≤ℤ s → unsigned_abs b ≤ e
-  at_end h k l =
-      let t : int_le s (pos 0) ≡ false = sym (omega (arith, ints)) in
-      let u : int_le w s ≡ true = sym (omega (arith, ints)) in
-      rw (t, u) at h
+  at_end h k l = grind (arith, ints)
 
   at_side : off_by s w a b c ≤ e → pos 0 <ℤ s → s <ℤ w → rounded_up (square c) (unsigned_abs w) ≤ e
-  at_side h k l =
-      let t : int_le s (pos 0) ≡ false = sym (omega (arith, ints)) in
-      let u : int_le w s ≡ false = sym (omega (arith, ints)) in
-      rw (t, u) at h
+  at_side h k l = grind (arith, ints)
 
   at_width : pos 0 ≤ℤ w → w ≡ pos (unsigned_abs w)
   at_width h = omega (arith, ints)
