@@ -15,7 +15,8 @@ use Rattle.measure.specs.declared.distance.Side.TheVariants.{Past, Along}
 use Rattle.measure.specs.Sides.{sided, risen}
 use Rattle.measure.specs.Ints.{abs_product}
 use Rattle.measure.specs.Runs.{greatest_small}
-use Rattle.measure.specs.Rounded.{rounded_least, rounded_serves}
+use Rattle.measure.specs.Rounded.{rounded_least}
+use Rattle.measure.proofs.Serves.{rounded_serves}
 use Rattle.measure.specs.Points.{on}
 use Rattle.measure.specs.Swept.{cross_small}
 use Rattle.measure.specs.Offs.{inside}
@@ -134,6 +135,3 @@ module _ (ps : List Point) (i j : ℕ) (l : Lawful ps) (c : Chord ps i j) where
       let r : risen m w ≡ 0 = ap (λ (n : ℕ). risen n w) z ∙ risen_zero w in
       omega (arith, greatest_past (off_at ps i j) (past_at ps i j) (along_at ps i j) w (i + 1) e (j - (i + 1)) z, r))
       (cases_lt 0 w)
-
-pub joined : (r p a w p' a' w' d : ℕ) → r ≡ max p (risen a w) → p ≡ p' → a ≡ a' → w ≡ w' → d ≡ max p' (risen a' w') → r ≡ d
-joined r p a w p' a' w' d e f g h i = cc

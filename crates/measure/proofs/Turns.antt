@@ -1,5 +1,6 @@
 -- The area's sum with one more point, when it begins with the turn from the start to itself.
-use Rattle.std.proofs.Common.{◌≡◌, ℕ, zero, suc, ◌+◌, ◌-◌, List, ℤ, pos, negsuc, ◌+ℤ◌, ◌-ℤ◌, ◌*ℤ◌, ap, ◌∙◌, arith}
+use Rattle.std.proofs.Common.{◌≡◌, ℕ, zero, suc, ◌+◌, ◌-◌, List, pos, ◌+ℤ◌, ◌-ℤ◌, ap, ◌∙◌, arith}
+use Rattle.std.proofs.Math.IntN.{zero-*ℤ}
 use Rattle.std.proofs.lemmas.Int.{ints}
 use Rattle.tray.specs.declared.point.Point.{Point}
 use Rattle.tray.specs.Stroke.{at, numbered}
@@ -7,15 +8,11 @@ use Rattle.measure.specs.Steps.{cross}
 use Rattle.measure.specs.Area.{swept}
 use Rattle.measure.specs.Swept.{swept_next}
 
-zero_times : (z : ℤ) → pos 0 *ℤ z ≡ pos 0
-zero_times (pos n) = ap pos (omega arith)
-zero_times (negsuc n) = omega (arith, ints)
-
 no_turn : (o q : Point) → cross o o q ≡ pos 0
 no_turn o q =
     let x : o.x -ℤ o.x ≡ pos 0 = omega (arith, ints) in
     let y : o.y -ℤ o.y ≡ pos 0 = omega (arith, ints) in
-    rw (x, y, zero_times (q.y -ℤ o.y), zero_times (q.x -ℤ o.x))
+    rw (x, y, zero-*ℤ (q.y -ℤ o.y), zero-*ℤ (q.x -ℤ o.x))
 
 module _ (ps : List Point) (i : ℕ) where
   pub swept_more : (n : ℕ) → swept ps i (i + (n + 1)) ≡ swept ps i (i + n) +ℤ cross (numbered ps i) (numbered ps (i + n)) (numbered ps (i + 1 + n))

@@ -1,12 +1,12 @@
 -- The laws of measures, for bare measures and for layers.
 use Rattle.std.specs.Prelude.{◌≡◌, ℕ, ◌<◌, ◌≤◌, Bool, true, false, cond, List, length, Some, None, Option, refl}
-use Rattle.std.proofs.Common.{ap, arith}
+use Rattle.std.proofs.Common.{arith}
 use Rattle.tray.specs.declared.point.Point.{Point}
 use Rattle.tray.specs.Stroke.{Lawful}
 use Rattle.total.specs.Laws.{limit}
 use Rattle.measure.specs.Chords.{Chord, chord, bare}
 use Rattle.measure.specs.Layers.{barring}
-use Rattle.measure.specs.Points.{chord_of, chord_is}
+use Rattle.measure.specs.Points.{chord_of}
 
 answered_by : (b : Bool) (n e : ℕ) → cond b (Some n) None ≡ Some e → (b ≡ true) × (n ≡ e)
 answered_by true n e q = (refl, cc)
@@ -28,14 +28,3 @@ bare_limited f h ps i j e l q = let a = answered f ps i j e q in omega (arith, h
 pub passed_on : (b : Bool) (o : Option ℕ) (e : ℕ) → barring b o ≡ Some e → o ≡ Some e
 passed_on true o e q = let z : ◌≡◌ {A = ℕ} 0 1 = cc in absurd (omega arith)
 passed_on false o e q = q
-
--- where there is no chord there is no answer from below, so a layer has none
-pub none_outside : (b : Bool) (ps qs : List Point) (i j : ℕ) (o : Option ℕ) → qs ≡ ps → false ≡ chord qs i j → ((e : ℕ) → o ≡ Some e → (1 ≤ i) × (i < j) × (j ≤ length ps)) → None ≡ barring b o
-none_outside true ps qs i j o p f h = refl
-none_outside false ps qs i j None p f h = refl
-none_outside false ps qs i j (Some e) p f h =
-    let k = h e refl in
-    let t = chord_is ps i j k.0 k.1 k.2 in
-    let u : chord qs i j ≡ chord ps i j = ap (λ (rs : List Point). chord rs i j) p in
-    let z : ◌≡◌ {A = ℕ} 0 1 = cc in
-    absurd (omega arith)

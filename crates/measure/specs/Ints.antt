@@ -1,8 +1,8 @@
--- Products and squares of numbers with signs, and numbers of 32 bits past their casts.
+-- Products and squares of numbers with signs, and what fits.
 use Rattle.std.specs.Prelude.{◌≡◌, ℕ, suc, ◌*◌, ◌^◌, ◌<◌, ◌≤◌, ℤ, pos, negsuc, ◌*ℤ◌, neg_ℤ, FitsSigned, unsigned_abs, refl}
-use Rattle.std.proofs.Common.{arith, to_z, of_z}
+use Rattle.std.proofs.Common.{arith}
 use Rattle.std.proofs.lemmas.Nat.{mul-le}
-use Rattle.std.proofs.lemmas.Int.{to_z-of_z, ints}
+use Rattle.std.proofs.lemmas.Int.{ints}
 use Rattle.std.specs.Int.{w32, w64}
 use Rattle.measure.specs.Steps.{square}
 
@@ -34,19 +34,3 @@ fits32 z h = omega (arith, ints)
 
 pub fits64 : (z : ℤ) → unsigned_abs z < 2 ^ 63 → FitsSigned w64 z
 fits64 z h = omega (arith, ints)
-
--- ---- past the casts
-
--- the size of r that is d
-pub stripped : (r d : ℤ) (n : ℕ) → unsigned_abs r ≤ 2 * (8191 * 8191) → n ≡ unsigned_abs (to_z w32 (of_z w32 r)) → r ≡ d → n ≡ unsigned_abs d
-stripped r d n h e f =
-    let g : FitsSigned w32 r = fits32 r (omega (arith, h)) in
-    let x : n ≡ unsigned_abs r = simp to_z-of_z at e in
-    cc
-
--- a number of 32 bits, widened
-pub widened : (r : ℤ) → unsigned_abs r < 2 ^ 31 → to_z w64 (of_z w64 (to_z w32 (of_z w32 r))) ≡ r
-widened r h =
-    let f : FitsSigned w32 r = fits32 r h in
-    let g : FitsSigned w64 r = fits64 r (omega arith) in
-    simp to_z-of_z

@@ -1,21 +1,17 @@
--- How large lags are, alone and together, and that the synchronous error is the least that serves.
-use Rattle.std.specs.Prelude.{◌≡◌, ℕ, ◌+◌, ◌-◌, ◌*◌, ◌^◌, ◌<◌, ◌≤◌, List, ℤ, pos, ◌-ℤ◌, ◌*ℤ◌, unsigned_abs}
-use Rattle.std.proofs.Common.{ap, ◌∙◌, subst, mul-le-mul_right, mul-pos, arith, to_z, of_z}
+-- How large lags are, alone and together, and how large the synchronous error is.
+use Rattle.std.specs.Prelude.{◌≡◌, ℕ, ◌+◌, ◌-◌, ◌*◌, ◌<◌, ◌≤◌, List, ℤ, pos, ◌-ℤ◌, ◌*ℤ◌, unsigned_abs}
+use Rattle.std.proofs.Common.{subst, mul-le-mul_right, mul-pos, arith}
 use borrow.Author.Differences.{ints, up, down}
-use Rattle.std.proofs.lemmas.Nat.{mul-le}
-use Rattle.std.proofs.lemmas.Int.{to_z-of_z}
-use Rattle.std.specs.Int.{w32, w64}
 use Rattle.tray.specs.declared.point.Point.{Point}
 use Rattle.tray.specs.Stroke.{numbered, Lawful}
 use Rattle.total.specs.Laws.{limit}
 use Rattle.measure.specs.Chords.{Placed, On, Chord, lasting}
 use Rattle.measure.specs.Between.{gathered}
-use Rattle.measure.specs.Synchronous.{lag, lags, lags_at, all_lags, synchronous_error, synchronous, LeastSynchronous}
-use Rattle.measure.specs.Ints.{fits32, square_small, widened}
+use Rattle.measure.specs.Synchronous.{lag, lags, lags_at, all_lags, synchronous_error}
+use Rattle.measure.specs.Ints.{square_small}
 use Rattle.measure.specs.Runs.{sum_small}
-use Rattle.measure.specs.Rounded.{rounded_least, rounded_serves}
-use Rattle.measure.specs.Points.{on, step_small, later, brief}
-use Rattle.measure.specs.Answered.{answered}
+use Rattle.measure.specs.Rounded.{rounded_least}
+use Rattle.measure.specs.Points.{on, step_small, later}
 
 -- ---- one lag
 
@@ -35,20 +31,6 @@ lag_small from here to part whole f g h l =
     subst (λ (n : ℕ). unsigned_abs ((here -ℤ from) *ℤ pos n -ℤ pos part *ℤ (to -ℤ from)) ≤ 8191 * n) e
     (lag_parts (here -ℤ from) (to -ℤ from) part (whole - part) (step_small from here f g) near)
 
--- ---- past the casts
-
-placed_cast : (z : ℤ) → Placed z → to_z w32 (of_z w32 z) ≡ z
-placed_cast z h = to_z-of_z w32 z (fits32 z (omega (arith, ints)))
-
--- a lag r, widened
-pub wide_lag : (r f a t : ℤ) (p w : ℕ) → Placed f → Placed a → Placed t → p ≤ w → w ≤ 8191 → r ≡ lag (to_z w32 (of_z w32 f)) (to_z w32 (of_z w32 a)) (to_z w32 (of_z w32 t)) p w → to_z w64 (of_z w64 (to_z w32 (of_z w32 r))) ≡ lag f a t p w
-wide_lag r f a t p w h i j k l e =
-    let x = placed_cast f h in
-    let y = placed_cast a i in
-    let z = placed_cast t j in
-    let u : r ≡ lag f a t p w = cc in
-    widened r (omega (arith, ap unsigned_abs u, lag_small f a t p w h i j k)) ∙ u
-
 -- ---- all lags of a chord
 
 pub lags_small : (p q k : Point) → On p → On q → On k → k.t ≤ q.t → lags p q k ≤ 134184962 * ((q.t - p.t) * (q.t - p.t))
@@ -67,15 +49,6 @@ module _ (ps : List Point) (i j : ℕ) (l : Lawful ps) (c : Chord ps i j) where
       lags_small (numbered ps i) (numbered ps j) (numbered ps m) (on ps i l (omega arith) (omega arith)) (on ps j l (omega arith) (omega arith)) (on ps m l (omega arith) (omega arith))
       (omega (arith, later ps m j l (omega arith) (omega arith) (omega arith))))
 
-  pub lags_sum_fits : (n : ℕ) → n ≤ j - (i + 1) → gathered ◌+◌ 0 (lags_at ps i j) (i + 1) n < 2 ^ 63
-  lags_sum_fits n h =
-      let w = lasting ps i j in
-      let t : w ≤ 8191 = omega (arith, brief ps i j l (omega arith) (omega arith) (omega arith)) in
-      let few = l.few in
-      let u = mul-le w w 8191 8191 t t in
-      let v = mul-le n (134184962 * (w * w)) 510 (134184962 * (8191 * 8191)) (omega arith) (omega (arith, u)) in
-      omega (arith, lags_sum_small n h, v)
-
   pub some_time : 0 < lasting ps i j * lasting ps i j
   some_time =
       let some : 0 < lasting ps i j = omega (arith, later ps i j l (omega arith) (omega arith) (omega arith)) in
@@ -88,13 +61,3 @@ module _ (ps : List Point) (i j : ℕ) (l : Lawful ps) (c : Chord ps i j) where
       let many : (j - (i + 1)) * (134184962 * (w * w)) ≤ 510 * (134184962 * (w * w)) = mul-le-mul_right (134184962 * (w * w)) (omega arith) in
       let b : all_lags ps i j ≤ 68434330620 * (w * w) = omega (arith, many, lags_sum_small (j - (i + 1)) (omega arith)) in
       omega (arith, rounded_least (all_lags ps i j) (w * w) 68434330620 some_time b)
-
-pub least_synchronous : (ps : List Point) (i j : ℕ) → Lawful ps → LeastSynchronous ps i j (synchronous ps i j)
-least_synchronous ps i j l e q =
-    let a = answered synchronous_error ps i j e q in
-    let w = lasting ps i j * lasting ps i j in
-    let some = some_time ps i j l a.0 in
-    record {
-      serves = subst (λ (n : ℕ). all_lags ps i j ≤ n * w) a.1 (rounded_serves (all_lags ps i j) w some);
-      no_lesser = λ f h. omega (arith, a.1, rounded_least (all_lags ps i j) w f some h);
-    }

@@ -2,7 +2,7 @@
 use Rattle.std.specs.Prelude.{◌≡◌, ℕ, ◌+◌, ◌-◌, ◌<◌, ◌≤◌, true, ◌&&◌, List, length, ℤ, ◌-ℤ◌, nat_le, nat_lt, unsigned_abs}
 use Rattle.std.proofs.Common.{ap, ⊎_elim, arith}
 use Rattle.std.proofs.lemmas.Int.{ints}
-use Rattle.std.proofs.lemmas.Bool.{cases_lt, and_parts, leb-true, ltb-true, le-leb, lt-ltb}
+use Rattle.std.proofs.lemmas.Bool.{cases_lt, and_parts, leb-true, ltb-true}
 use Rattle.tray.specs.declared.point.Point.{Point}
 use Rattle.tray.specs.Stroke.{at, numbered, Lawful}
 use Rattle.measure.specs.Chords.{Placed, On, Chord, chord}
@@ -34,6 +34,3 @@ chord_of ps i j t =
     let a = and_parts (nat_le 1 i) (nat_lt i j && nat_le j (length ps)) t in
     let b = and_parts (nat_lt i j) (nat_le j (length ps)) a.1 in
     record { first = leb-true 1 i a.0; rising = ltb-true i j b.0; last = leb-true j (length ps) b.1 }
-
-pub chord_is : (ps : List Point) (i j : ℕ) → 1 ≤ i → i < j → j ≤ length ps → chord ps i j ≡ true
-chord_is ps i j f g h = rw (le-leb 1 i f, lt-ltb i j g, le-leb j (length ps) h)

@@ -1,5 +1,5 @@
--- Rounding up gives the least number that serves.
-use Rattle.std.specs.Prelude.{◌≡◌, ℕ, zero, suc, ◌+◌, ◌*◌, ◌/◌, ◌%◌, ◌<◌, ◌≤◌, min}
+-- Rounding up gives no more than a number that serves.
+use Rattle.std.specs.Prelude.{ℕ, zero, suc, ◌+◌, ◌*◌, ◌/◌, ◌%◌, ◌<◌, ◌≤◌, min}
 use Rattle.std.proofs.Common.{lt_of_mul-lt-mul_right, le_of_mul-le-mul_right, arith}
 use Rattle.std.proofs.lemmas.Nat.{div-add-mod'}
 use Rattle.measure.specs.Steps.{rounded_up}
@@ -14,12 +14,3 @@ up_least q (suc r) d e p h =
 
 pub rounded_least : (n d e : ℕ) → 0 < d → n ≤ e * d → rounded_up n d ≤ e
 rounded_least n d e p h = up_least (n / d) (n % d) d e p (omega (arith, div-add-mod' n d))
-
-up_serves : (q r d : ℕ) → r < d → q * d + r ≤ (q + min 1 r) * d
-up_serves q zero d h = omega arith
-up_serves q (suc r) d h =
-    let e : min 1 (suc r) ≡ 1 = omega arith in
-    rw e (omega arith)
-
-pub rounded_serves : (n d : ℕ) → 0 < d → n ≤ rounded_up n d * d
-rounded_serves n d p = omega (arith, up_serves (n / d) (n % d) d (omega arith), div-add-mod' n d)

@@ -3,7 +3,8 @@ use Rattle.std.proofs.lemmas.Int.{to_z-of_z}
 use Rattle.tray.specs.Stroke.{numbered}
 use Rattle.measure.specs.Area.{swept}
 use Rattle.measure.specs.Steps.{cross}
-use Rattle.measure.specs.Ints.{fits64, widened}
+use Rattle.measure.specs.Ints.{fits64}
+use Rattle.measure.proofs.Casts.{widened}
 use Rattle.measure.specs.Swept.{swept_small}
 use Rattle.measure.proofs.Turns.{swept_more}
 use Rattle.measure.proofs.area.area_of.Goals as goal

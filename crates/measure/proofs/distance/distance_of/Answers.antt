@@ -2,7 +2,7 @@ use Rattle.std.proofs.Common.{◌≡◌, ◌+◌, ◌-◌, max, ap, arith}
 use Rattle.tray.specs.Stroke.{numbered}
 use Rattle.measure.specs.Steps.{dot}
 use Rattle.measure.specs.Sides.{sided}
-use Rattle.measure.specs.Ints.{stripped}
+use Rattle.measure.proofs.Casts.{stripped}
 use Rattle.measure.specs.Runs.{one_more}
 use Rattle.measure.proofs.Heights.{past, along, past_at, along_at, whole_of, distance_is, alongs_small}
 use Rattle.measure.proofs.distance.distance_of.Goals as goal

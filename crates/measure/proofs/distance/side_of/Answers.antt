@@ -2,7 +2,8 @@ use Rattle.std.proofs.Common.{◌≡◌, true, false, pos, arith, w32, SFits}
 use lib.Signed.{le_z}
 use Rattle.std.proofs.lemmas.Int.{to_z-of_z}
 use Rattle.measure.specs.Steps.{cross, dot}
-use Rattle.measure.specs.Ints.{fits32, stripped}
+use Rattle.measure.specs.Ints.{fits32}
+use Rattle.measure.proofs.Casts.{stripped}
 use Rattle.measure.proofs.distance.side_of.Goals as goal
 
 pub returns-then-s-dot : goal.returns-then-s-dot

@@ -2,7 +2,7 @@ use Rattle.std.proofs.Common.{◌≡◌, ◌+◌, arith}
 use Rattle.measure.specs.Between.{gathered}
 use Rattle.measure.specs.Synchronous.{lags_at}
 use Rattle.measure.specs.Runs.{one_more}
-use Rattle.measure.specs.Lags.{lags_sum_fits}
+use Rattle.measure.proofs.LeastSynchronous.{lags_sum_fits}
 use Rattle.measure.proofs.synchronous.synchronous_of.Goals as goal
 
 pub lags_of-sum-requires : goal.lags_of-sum-requires

@@ -1,7 +1,7 @@
 use Rattle.std.proofs.Common.{◌≡◌, Some, sym, ◌∙◌, rules}
 use Rattle.tray.specs.Trays.{stroke}
 use Rattle.measure.specs.Distance.{distance}
-use Rattle.measure.specs.Offs.{least_distance}
+use Rattle.measure.proofs.LeastDistance.{least_distance}
 use Rattle.measure.proofs.distance.DistanceMeasure.error.Goals as goal
 
 pub returns-clause-least : goal.returns-clause-least

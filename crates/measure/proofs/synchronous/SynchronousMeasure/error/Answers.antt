@@ -2,7 +2,7 @@ use Rattle.std.proofs.Common.{◌≡◌, Some, sym, ◌∙◌, rules}
 use Rattle.tray.specs.Trays.{stroke}
 use Rattle.tray.proofs.Tables.{lawful_points}
 use Rattle.measure.specs.Synchronous.{synchronous}
-use Rattle.measure.specs.Lags.{least_synchronous}
+use Rattle.measure.proofs.LeastSynchronous.{least_synchronous}
 use Rattle.measure.proofs.synchronous.SynchronousMeasure.error.Goals as goal
 
 pub returns-clause-least : goal.returns-clause-least
