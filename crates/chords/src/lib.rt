@@ -51,7 +51,7 @@ fn every_chord<M: Measure>(measure: &M, stroke: &Lifted) -> u64
     (1..=n).map(|j| to_point(measure, stroke, j)).sum()
 }
 
-// The sum of the synchronous errors of all chords.
+// The sum of the synchronous errors of all chords. C links these three through `chords_c`, so each has a name and no type parameter.
 #[unsafe(no_mangle)]
 pub extern "C" fn chords_synchronous(places: &[Place]) -> u64
     ensures { result ≡ every_error synchronous (put_in_turn places.now) }

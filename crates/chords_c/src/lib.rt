@@ -9,7 +9,7 @@ ghost use Rattle.chords.specs.Every.{put_in_turn, every_error};
 
 use chords::Place;
 
-// The sum of the synchronous errors of all chords.
+// The sum of the synchronous errors of all chords: the library's function under the name that C links, as those below.
 #[unsafe(no_mangle)]
 pub extern "C" fn chords_synchronous(places: &[Place]) -> u64
     ensures { result ≡ every_error synchronous (put_in_turn places.now) }

@@ -21,7 +21,7 @@ use total::worst::Worst;
 use tray::causes::Refusal;
 use tray::tray::Lifted;
 
-// By one measure under the two layers.
+// By one measure under the two layers. The tables and the list are arrays of the job's own, since memory is fixed.
 fn keep_by<M: Measure + Drop, T: Figures>(
     stroke: &Lifted,
     below: M,
@@ -56,7 +56,7 @@ fn keep_by<M: Measure + Drop, T: Figures>(
     })
 }
 
-// By the measure that the order names.
+// By the measure that the order names. A match and no `dyn`: there are three, and a type parameter has each compiled for itself.
 fn keep_as<T: Figures>(
     stroke: &Lifted,
     order: KnownOrder,

@@ -43,6 +43,7 @@ fn push_page(text: &mut String, page: &[u8], answers: &mut [u8]) -> Result<(), A
 {
     let mut job = Job::new(page);
     loop {
+        // In two steps: the borrow checker covers no nested pattern at a variant that holds a struct with a ghost field.
         let next = match job.next(answers) {
             Ok(next) => next,
             Err(stop) => return push_line(text, &Told::from(stop.fault)),

@@ -6,6 +6,7 @@ use crate::chord::Chord;
 use crate::measure::Measure;
 use tray::tray::Lifted;
 
+// Not one type with Corners: that bars by a mark and has no number of its own.
 #[derive(Clone, Copy)]
 pub struct Span<M> {
     pub span: u32,

@@ -18,6 +18,7 @@ pub struct Placed<'a> {
     pub place: usize,
 }
 
+// A point as it stands on the page. No type parameter joins it with the tray's point, whose places are wider: it would stand at every mention of either.
 #[derive(Clone, Copy, Debug, PartialEq, Eq)]
 pub struct Point {
     pub x: i16,
@@ -26,7 +27,8 @@ pub struct Point {
     pub mark: Mark,
 }
 
-// How a stroke is to be reduced, as it stands on the page: measure and total are codes, known or not. The writer takes any codes and refuses those that are not known, so they are numbers here.
+// How a stroke is to be reduced, as it stands on the page: measure and total are codes, known or not.
+// They are numbers, since the writer takes any codes and refuses those that are not known.
 #[derive(Clone, Copy, Debug, PartialEq, Eq)]
 pub struct Order {
     pub measure: u8,
@@ -50,6 +52,7 @@ pub enum Part {
 }
 
 // What one record says where it stands, or that the page has ended.
+// The end is a variant and no `None` around the others, so that one match names all four.
 #[derive(Clone, Copy, Debug, PartialEq, Eq)]
 pub enum Step {
     Begin(u32),

@@ -48,6 +48,7 @@ impl TryFrom<u8> for MeasureKind {
     }
 }
 
+// Beside the conversion above and not one with it: each enum has names of its own.
 impl TryFrom<u8> for TotalKind {
     type Error = UnknownCode;
 

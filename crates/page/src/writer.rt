@@ -14,7 +14,7 @@ use crate::order::KnownOrder;
 // The most kept numbers whose record's length fits its two bytes.
 const MOST_KEPT: usize = 32757;
 
-// How many bytes of the page are used.
+// How many bytes of the page are used. The page itself is lent at each call: its memory is the caller's.
 #[derive(Clone, Copy)]
 pub struct Writer {
     pub used: usize,
@@ -81,7 +81,7 @@ impl Writer {
         Ok(self.used)
     }
 
-    // Appends the record of a refusal in the same way.
+    // Appends the record of a refusal in the same way. The refusal is a number here: whatever number is given is written.
     pub fn append_refused(
         &mut self,
         page: &mut [u8],

@@ -8,7 +8,7 @@ ghost use Rattle.plotter.specs.Status.{status_of};
 use job::next::run;
 use refusal::Told;
 
-// How many strokes were answered, and the number and the place of the refusal that stopped the job; number 0 where none did.
+// How many strokes were answered, and the number and the place of the refusal that stopped the job; number 0 where none did: C has no `Result`.
 #[repr(C)]
 #[derive(Clone, Copy)]
 pub struct Status {
@@ -17,7 +17,7 @@ pub struct Status {
     pub place: usize,
 }
 
-// Answers the strokes of a page on an answer page.
+// Answers the strokes of a page on an answer page. C links it through `plotter_c`, since a static library is no library for crates.
 #[unsafe(no_mangle)]
 pub extern "C" fn fulgestam_reduce(page: &[u8], answers: &mut [u8], status: &mut Status)
     ensures answers { answers.new ≡ (jobbed page.now answers.old).bytes }

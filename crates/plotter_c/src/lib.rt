@@ -7,7 +7,7 @@ ghost use Rattle.plotter.specs.Status.{status_of};
 
 use plotter::Status;
 
-// Answers the strokes of a page on an answer page.
+// Answers the strokes of a page on an answer page: the library's function under the name that C links.
 #[unsafe(no_mangle)]
 pub extern "C" fn fulgestam_reduce(page: &[u8], answers: &mut [u8], status: &mut Status)
     ensures answers { answers.new ≡ (jobbed page.now answers.old).bytes }

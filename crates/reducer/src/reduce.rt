@@ -22,6 +22,7 @@ use tray::causes::Refusal;
 use tray::tray::Lifted;
 
 // Keeps the chain with the fewest points, and of these the least total. It changes no point and no mark.
+// The caller lends three tables and a list: no memory is taken here.
 pub fn reduce<M: Measure, T: Total>(
     stroke: &Lifted,
     measure: &M,

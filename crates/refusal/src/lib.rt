@@ -15,6 +15,7 @@ pub enum Layer {
 }
 
 // What a refusal tells. The number names the cause; what the place counts (points, bytes, entries) depends on it.
+// A number and no enum: the causes are enums of the crates above, and this is what is printed of them and handed to C.
 #[derive(Clone, Copy, Debug, PartialEq, Eq)]
 pub struct Told {
     pub number: u16,

@@ -65,7 +65,7 @@ impl Lifted {
         self.table.set_mark(i, Mark::Corner)
     }
 
-    // Makes the point i plain and answers i.
+    // Makes the point i plain and answers i. A call of its own: the history of a tray has two calls here.
     pub fn unmark(&mut self, i: u16) -> Result<u16, Refusal>
         ensures says { tells result ≡ mark_says (stroke self.old) i }
         ensures steps { lifted self.new ≡ step (lifted self.old) (calls_unmark i) }
