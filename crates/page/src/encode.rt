@@ -1,4 +1,5 @@
 // Records as bytes, and bytes put into a page.
+// Functions and no `From`: a name says which record the bytes are, where a conversion to an array would not.
 ghost use Rattle.std.specs.Prelude.{◌≡◌, ◌+◌, ◌*◌, ◌<◌, ◌≤◌, ◌++◌, length, nat_le};
 ghost use Rattle.page.specs.Strokes.{start_bytes, point_bytes, order_bytes};
 ghost use Rattle.page.specs.Little.{le};

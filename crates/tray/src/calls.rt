@@ -25,7 +25,7 @@ impl Writing {
         }
     }
 
-    // Adds a plain point and answers its number.
+    // Adds a plain point and answers its number. Its parts come one by one: there is a point only once they are accepted.
     pub fn put(&mut self, x: i32, y: i32, t: u32) -> Result<u16, Refusal>
         ensures says { tells result ≡ put_says (writing self.old).points x y t }
         ensures steps { writing self.new ≡ step (writing self.old) (calls_put x y t) }
