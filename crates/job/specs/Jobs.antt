@@ -4,6 +4,7 @@
 --   jobbed       the same for a whole page
 --   Next         one stroke more: what is told of it, what is left to read, and where the answer page stands
 --   next_of      the first stroke of a reading answered
+--   beside       a step's answer, with a count around a refusal
 --   More         how many bytes a call leaves
 --   Side         a refusal is the page's where no stroke is left to read, and the answer page's where one is
 --   RunSide      the same at the end of a whole job, by the strokes that it did not answer
@@ -104,6 +105,11 @@ to_read j = left j.walk
 
 abbrev pub next_from : Job → List ℕ → Next
 next_from j out = next_of (to_read j).strokes (to_read j).ending j.count j.writer.used out
+
+-- a step's answer, with the count of the strokes answered before it around a refusal
+abbrev pub beside : ℕ → Result (Option Answered) StepFault → Result (Option Answered) JobFault
+beside n (Ok a) = Ok a
+beside n (Err f) = Err (record { appended = n; fault = f })
 
 -- what one call of the code tells and leaves
 abbrev pub next_done : Result (Option Answered) JobFault → Job → List ℕ → Next

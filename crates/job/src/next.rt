@@ -2,7 +2,7 @@
 ghost use Rattle.std.specs.Prelude.{◌≡◌, ◌<◌, length};
 ghost use Rattle.page.specs.Steps.{reading};
 ghost use Rattle.job.specs.Whole.{Shorter};
-ghost use Rattle.job.specs.Jobs.{to_read, next_from, next_done, outcome_of, jobbed, More, Side, RunSide};
+ghost use Rattle.job.specs.Jobs.{beside, to_read, next_from, next_done, outcome_of, jobbed, More, Side, RunSide};
 ghost use Rattle.job.specs.Calls.{KeepsTheLaw};
 ghost use Rattle.job.specs.Laws.{AnswersFit, FitsThePage, HoldsTheAnswers, OwnRecordsAlone, Never8Or10};
 
@@ -30,35 +30,38 @@ impl<'a> Job<'a> {
         }
     }
 
-    // Answers the next stroke and appends its record, or tells that there is none; a refused call leaves everything as it was.
-    pub fn next(&mut self, answers: &mut [u8]) -> Result<Option<Answered>, JobFault>
-        ensures next { next_done result self.new answers.new ≡ next_from self.old answers.old }
-        ensures side { Side (to_read self.old).strokes result }
-        ensures falls { More (length self.new.walk.rest.now) (length self.old.walk.rest.now) result }
+    // Answers the next stroke and appends its record, or tells that there is none; a refused step leaves everything as it was.
+    fn step(&mut self, answers: &mut [u8]) -> Result<Option<Answered>, StepFault>
+        ensures next { next_done (beside self.old.count result) self.new answers.new ≡ next_from self.old answers.old }
+        ensures side { Side (to_read self.old).strokes (beside self.old.count result) }
+        ensures falls { More (length self.new.walk.rest.now) (length self.old.walk.rest.now) (beside self.old.count result) }
     {
-        let appended = self.count;
         let mut walk = self.walk;
-        let read = read_stroke(&mut walk).map_err(|fault| JobFault {
-            appended,
-            fault: StepFault::Page(fault),
-        })?;
-        let Some(stroke) = read else {
+        let Some(stroke) = read_stroke(&mut walk)? else {
             return Ok(None);
         };
         let answered = stroke.answer();
         let mut writer = self.writer;
         answered
             .append(&mut writer, answers)
-            .map_err(|fault| JobFault {
-                appended,
-                fault: StepFault::Answers(fault),
-            })?;
+            .map_err(StepFault::Answers)?;
         *self = Job {
             walk,
             writer,
-            count: appended + 1,
+            count: self.count + 1,
         };
         Ok(Some(answered))
+    }
+
+    // The same, with the count of the strokes answered before it put around a refusal of a page.
+    pub fn next(&mut self, answers: &mut [u8]) -> Result<Option<Answered>, JobFault>
+        ensures next { next_done result self.new answers.new ≡ next_from self.old answers.old }
+        ensures side { Side (to_read self.old).strokes result }
+        ensures falls { More (length self.new.walk.rest.now) (length self.old.walk.rest.now) result }
+    {
+        let appended = self.count;
+        self.step(answers)
+            .map_err(|fault| JobFault { appended, fault })
     }
 }
 
