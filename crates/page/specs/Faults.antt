@@ -3,7 +3,6 @@
 --   told_at c p   what is told of the cause c at the place p
 --   told f        what a refusal of a page tells
 --   step_told f   what a refusal of a step tells: that of the page inside it
---   OfPage f      the page inside it is the page that is read
 use Rattle.std.specs.Prelude.{ℕ}
 use Rattle.refusal.specs.declared.Told.{Told}
 use Rattle.refusal.specs.declared.Layer.TheVariants.{Page}
@@ -31,7 +30,3 @@ told f = told_at f.cause f.place
 abbrev pub step_told : StepFault → Told
 step_told (Read f) = told f
 step_told (Answers f) = told f
-
-abbrev pub OfPage : StepFault → Type 0
-OfPage (Read f) = Unit {0}
-OfPage (Answers f) = ⊥

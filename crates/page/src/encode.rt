@@ -31,27 +31,11 @@ pub(crate) fn point_record(p: Point) -> [u8; 12]
 pub(crate) fn order_record(o: Order) -> [u8; 18]
     ensures { result ≡ order_bytes o }
 {
+    let kind = Kind::Order.byte();
     let [s0, s1, s2, s3] = o.span.to_le_bytes();
     let [a, b, c, d, e, f, g, h] = o.tolerance.to_le_bytes();
     [
-        14,
-        0,
-        Kind::Order.byte(),
-        0,
-        o.measure,
-        o.total,
-        s0,
-        s1,
-        s2,
-        s3,
-        a,
-        b,
-        c,
-        d,
-        e,
-        f,
-        g,
-        h,
+        14, 0, kind, 0, o.measure, o.total, s0, s1, s2, s3, a, b, c, d, e, f, g, h,
     ]
 }
 
