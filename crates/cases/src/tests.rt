@@ -10,26 +10,21 @@ mod pages;
 mod reduces;
 mod trays;
 
-// A tray with the hook.
-fn hook() -> Result<Writing, Refusal> {
+// A tray with these points put in turn, each as x, y and t.
+fn drawn<const N: usize>(points: [(i32, i32, u32); N]) -> Result<Writing, Refusal> {
     let mut tray = Writing::new();
-    tray.put(0, 0, 0)?;
-    tray.put(1, 4, 1)?;
-    tray.put(2, 4, 2)?;
-    tray.put(3, 3, 3)?;
-    tray.put(4, 0, 4)?;
+    for (x, y, t) in points {
+        tray.put(x, y, t)?;
+    }
     Ok(tray)
 }
 
-// A tray with the wave.
+fn hook() -> Result<Writing, Refusal> {
+    drawn([(0, 0, 0), (1, 4, 1), (2, 4, 2), (3, 3, 3), (4, 0, 4)])
+}
+
 fn wave() -> Result<Writing, Refusal> {
-    let mut tray = Writing::new();
-    tray.put(0, 0, 0)?;
-    tray.put(1, 2, 1)?;
-    tray.put(2, 0, 2)?;
-    tray.put(3, -2, 3)?;
-    tray.put(4, 0, 4)?;
-    Ok(tray)
+    drawn([(0, 0, 0), (1, 2, 1), (2, 0, 2), (3, -2, 3), (4, 0, 4)])
 }
 
 // The call was answered with this number.
@@ -38,35 +33,29 @@ fn answers(rt: &impl Abort, said: Result<u16, Refusal>, number: u16) -> Result<(
     Ok(())
 }
 
-// The call was refused, and tells this.
-fn tells<T: Drop, E>(rt: &impl Abort, said: Result<T, E>, told: Told) -> Result<(), Fail>
+// The call was refused by this layer with this number, at this place.
+fn refuses<T: Drop, E>(
+    rt: &impl Abort,
+    layer: Layer,
+    said: Result<T, E>,
+    number: u16,
+    place: usize,
+) -> Result<(), Fail>
 where
     Told: From<E>,
 {
     match said {
         Ok(_) => Err(Fail::new("not refused")),
         Err(refusal) => {
-            assert_eq!(rt; Told::from(refusal), told);
+            assert_eq!(rt;
+                Told::from(refusal),
+                Told {
+                    number,
+                    place,
+                    layer,
+                }
+            );
             Ok(())
         },
     }
-}
-
-// The tray refused the call with this number, at this place.
-fn refuses<T: Drop>(
-    rt: &impl Abort,
-    said: Result<T, Refusal>,
-    number: u16,
-    place: usize,
-) -> Result<(), Fail> {
-    let layer = Layer::Tray;
-    tells(
-        rt,
-        said,
-        Told {
-            number,
-            place,
-            layer,
-        },
-    )
 }

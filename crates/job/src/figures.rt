@@ -1,5 +1,5 @@
 // What a kind of total writes into the two total fields of an answer.
-// A trait of its own and no `From`: both ends of the conversion are types of other crates.
+// A trait of its own and no `From`: both ends of the conversion are types of other crates. An impl for each kind, as a field of each is read by its name.
 ghost use Rattle.std.specs.Prelude.{◌≡◌};
 ghost use Rattle.page.specs.declared.kinds.Totals.{Totals as Fields};
 ghost use Rattle.job.specs.Figures.{sum_figures, worst_figures, both_figures};

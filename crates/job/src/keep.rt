@@ -56,7 +56,7 @@ fn keep_by<M: Measure + Drop, T: Figures>(
     })
 }
 
-// By the measure that the order names. A match and no `dyn`: there are three, and a type parameter has each compiled for itself.
+// By the measure that the order names. A match: the order has the name as a value, and a closure or a `dyn` would be chosen by the same match.
 fn keep_as<T: Figures>(
     stroke: &Lifted,
     order: KnownOrder,

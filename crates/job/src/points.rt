@@ -29,6 +29,7 @@ fn put_point(tray: &mut Writing, marks: &mut ArrayVec<Mark, 512>, p: Point) -> R
     Ok(())
 }
 
+// What was read is no function of the fields once a put is refused, so it stands in a relation, `Holds`, and in no view.
 impl OpenStroke {
     // A stroke with no point yet.
     pub(crate) fn new() -> OpenStroke

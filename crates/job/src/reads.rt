@@ -1,4 +1,5 @@
 // The steps of a walk, told apart by where it stands.
+// Where it stands is asked and told by clauses: a type of walk for each part would have to repeat all that a walk has.
 ghost use Rattle.std.specs.Prelude.{◌≡◌, ℕ, ◌<◌, List, length, OnOk};
 ghost use Rattle.page.specs.declared.kinds.Part.TheVariants.{Outside, Inside};
 ghost use Rattle.page.specs.declared.kinds.Point.{Point as Dot};

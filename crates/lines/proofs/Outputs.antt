@@ -1,6 +1,7 @@
 -- What is printed of a reading, call by call of the job.
-use Rattle.std.proofs.Common.{◌≡◌, ℕ, ◌+◌, ◌≤◌, false, ltb, List, [], ◌∷◌, ◌++◌, length, Some, Ok, Err, Option, Result, OnOk, sym, ap, ◌∙◌, subst, append_assoc, append-nil, arith, length-append}
+use Rattle.std.proofs.Common.{◌≡◌, ℕ, ◌+◌, ◌≤◌, false, ltb, List, [], ◌∷◌, ◌++◌, length, Some, None, Ok, Err, Option, Result, OnOk, sym, ap, ◌∙◌, subst, append_assoc, append-nil, arith, length-append}
 use Rattle.std.specs.List.{flat_map}
+use Rattle.std.specs.Result.{result_transpose}
 use Rattle.std.proofs.lemmas.Bool.{le-leb, le-ltb, cond-true, cond-false}
 use Rattle.std.proofs.lemmas.Bool.Decides.{nat_tests}
 use Rattle.refusal.specs.declared.Told.{Told}
@@ -72,6 +73,17 @@ module _ (j j' : Job) (out out' : List ℕ) (room : Room j out) where
       let P : Next → Type 0 = λ x.
       (read_text (to_read j) ≡ with_feed (line_text (line a)) ++ read_text x.remains) × (x.used + length (flat_map record_of x.remains.strokes) ≤ length x.bytes) in
       subst P (sym e') q
+
+-- what a transposed answer was
+pub some_ok : {A E : Type 0} (r : Result (Option A) E) (a : A) → result_transpose r ≡ Some (Ok a) → r ≡ Ok (Some a)
+some_ok (Ok (Some x)) a e = let s : x ≡ a = cc in ap (λ y. Ok (Some y)) s
+some_ok (Ok None) a e = let z : ◌≡◌ {A = ℕ} 0 1 = cc in absurd (omega arith)
+some_ok (Err f) a e = let z : ◌≡◌ {A = ℕ} 0 1 = cc in absurd (omega arith)
+
+pub some_err : {A E : Type 0} (r : Result (Option A) E) (f : E) → result_transpose r ≡ Some (Err f) → r ≡ Err f
+some_err (Ok (Some x)) f e = let z : ◌≡◌ {A = ℕ} 0 1 = cc in absurd (omega arith)
+some_err (Ok None) f e = let z : ◌≡◌ {A = ℕ} 0 1 = cc in absurd (omega arith)
+some_err (Err g) f e = let s : g ≡ f = cc in ap Err s
 
 -- what holds where a call succeeds
 pub on_ok : {E P Q : Type 0} (r : Result (Unit {0}) E) → (P → Q) → OnOk r P → OnOk r Q

@@ -1,4 +1,4 @@
-// The line of a stroke, part by part.
+// The line of a stroke, part by part. The line of a refusal is that of what it tells.
 ghost use Rattle.std.specs.Prelude.{Some};
 ghost use Rattle.page.specs.Codes.{total_code};
 ghost use Rattle.job.specs.Jobs.{line as line_of};
@@ -57,18 +57,16 @@ impl fmt::Display for Reply<'_> {
                 write!(f, " kept{numbers}{figures}")
             }
             Err(refusal) => {
-                let told = Told::from(refusal);
-                let number = told.number;
-                let place = told.place;
+                let Told { number, place, .. } = Told::from(refusal);
                 write!(f, " refused {number} at {place}")
             }
         }
     }
 }
 
-// All of it: the stroke's number, and its reply.
+// The line of a stroke: its number and its reply, with no line feed.
 #[derive(Clone, Copy)]
-pub(crate) struct StrokeLine<'a>(pub(crate) &'a Answered);
+pub struct StrokeLine<'a>(pub &'a Answered);
 
 impl fmt::Display for StrokeLine<'_> {
     ghost output = { λ l. Some (line_text (line_of l.0.now)) };

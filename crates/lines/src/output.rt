@@ -42,21 +42,20 @@ fn push_page(text: &mut String, page: &[u8], answers: &mut [u8]) -> Result<(), A
     ensures { OnOk result (string_bytes text.new ≡ string_bytes text.old ++ page_text page.now) }
 {
     let mut job = Job::new(page);
-    loop {
-        // In two steps: the borrow checker covers no nested pattern at a variant that holds a struct with a ghost field.
-        let next = match job.next(answers) {
-            Ok(next) => next,
+    while let Some(next) = job.next(answers).transpose() {
+        match next {
+            Ok(answered) => push_line(text, &StrokeLine(&answered))?,
             Err(stop) => return push_line(text, &Told::from(stop.fault)),
-        };
-        let Some(answered) = next else {
-            return Ok(());
-        };
-        push_line(text, &StrokeLine(&answered))?;
+        }
     }
+    Ok(())
 }
 
-fn text_of(heap: Global, input: &[u8]) -> Result<String, AllocError>
-    ensures { IfOk result (λ t. string_bytes t ≡ program_text input.now) }
+// What is printed of an input: the lines of its page, or that it is too long for one.
+#[tactic(auto, using(crate::proofs::Outputs::lines_in_turn))]
+pub fn program_text(heap: Global, input: &[u8]) -> Result<String, AllocError>
+    ensures text { IfOk result (λ t. string_bytes t ≡ program_text input.now) }
+    ensures in_turn { LinesInTurn }
 {
     let mut text = String::new(heap);
     if input.len() > LONGEST {
@@ -66,12 +65,4 @@ fn text_of(heap: Global, input: &[u8]) -> Result<String, AllocError>
     let mut answers = vec![in heap; 0u8; LONGEST]?;
     push_page(&mut text, input, &mut answers)?;
     Ok(text)
-}
-
-// What is printed of an input: the lines of its page, or that it is too long for one.
-pub fn program_text(heap: Global, input: &[u8]) -> Result<String, AllocError>
-    ensures text { IfOk result (λ t. string_bytes t ≡ program_text input.now) }
-    ensures in_turn { LinesInTurn }
-{
-    text_of(heap, input)
 }

@@ -12,7 +12,7 @@ pub trait Measure {
     // The error of the chord from i to j, or none where the chord is barred.
     ghost meaning: { Self → List Point → ℕ → ℕ → Option ℕ };
 
-    // The error of the chord from i to j, or none where the chord is barred.
+    // Its meaning at a lifted stroke and two numbers.
     fn error(&self, stroke: &Lifted, i: usize, j: usize) -> Option<u64>
         ensures { result ≡ meaning self.now (stroke_of stroke.now) i j };
 

@@ -6,7 +6,7 @@ use crate::chord::Chord;
 use crate::measure::Measure;
 use tray::tray::Lifted;
 
-// Not one type with Corners: that bars by a mark and has no number of its own.
+// Not one type with Corners: what bars would be a parameter then, and a caller would name two types for a layer in place of one.
 #[derive(Clone, Copy)]
 pub struct Span<M> {
     pub span: u32,

@@ -19,7 +19,7 @@ pub struct Synchronous;
 // The square of the cross product of two ways. The cast serves the speed: with `unsigned_abs` the widening keeps a negation and a choice in the loop.
 fn cross_squared(a: Offset, b: Offset) -> u64
     ensures value { result ≡ square (a.dx *ℤ b.dy -ℤ a.dy *ℤ b.dx) }
-    ensures small { result ≤ 4 * (67092481 * 67092481) }
+    ensures small { result ≤ 4 * ((8191 * 8191) * (8191 * 8191)) }
 {
     let c = a.cross(b) as i64;
     (c * c) as u64

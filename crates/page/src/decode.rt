@@ -1,5 +1,5 @@
 // Numbers, points and orders taken from a payload.
-// Functions and no `From`: the payload of a point does not tell its mark, and a stroke number is no type of this crate.
+// Functions and no `From`, for all three alike: the payload of a point does not tell its mark, and a stroke number is no type of this crate.
 ghost use Rattle.std.specs.Prelude.{◌≡◌};
 ghost use Rattle.page.specs.Little.{unle};
 ghost use Rattle.page.specs.Strokes.{point_of, order_of};

@@ -7,21 +7,21 @@ ghost use Rattle.page.specs.Answers.{refused_bytes};
 ghost use Rattle.page.specs.Fits.{PointFits};
 ghost use Rattle.page.specs.Writes.{written};
 
-use crate::kind::Kind;
 use crate::kinds::{Order, Point};
+use crate::record_kind::Kind;
 
 pub(crate) fn start_record(number: u32) -> [u8; 8]
     ensures { result ≡ start_bytes number }
 {
     let [a, b, c, d] = number.to_le_bytes();
-    [4, 0, Kind::Start.byte(), 0, a, b, c, d]
+    [4, 0, u8::from(Kind::Start), 0, a, b, c, d]
 }
 
 pub(crate) fn point_record(p: Point) -> [u8; 12]
     ensures bytes { result ≡ point_bytes p }
     ensures fits { PointFits p }
 {
-    let kind = Kind::from(p.mark).byte();
+    let kind = u8::from(Kind::from(p.mark));
     let [x0, x1] = p.x.to_le_bytes();
     let [y0, y1] = p.y.to_le_bytes();
     let [a, b, c, d] = p.t.to_le_bytes();
@@ -31,7 +31,7 @@ pub(crate) fn point_record(p: Point) -> [u8; 12]
 pub(crate) fn order_record(o: Order) -> [u8; 18]
     ensures { result ≡ order_bytes o }
 {
-    let kind = Kind::Order.byte();
+    let kind = u8::from(Kind::Order);
     let [s0, s1, s2, s3] = o.span.to_le_bytes();
     let [a, b, c, d, e, f, g, h] = o.tolerance.to_le_bytes();
     [
@@ -47,7 +47,7 @@ pub(crate) fn kept_start(number: u32, count: usize) -> [u8; 8]
     let size = 20 + 2 * count as u16;
     let [s0, s1] = size.to_le_bytes();
     let [a, b, c, d] = number.to_le_bytes();
-    [s0, s1, Kind::Kept.byte(), 0, a, b, c, d]
+    [s0, s1, u8::from(Kind::Kept), 0, a, b, c, d]
 }
 
 pub(crate) fn refused_record(number: u32, refusal: u16, place: u16) -> [u8; 12]
@@ -56,7 +56,7 @@ pub(crate) fn refused_record(number: u32, refusal: u16, place: u16) -> [u8; 12]
     let [a, b, c, d] = number.to_le_bytes();
     let [r0, r1] = refusal.to_le_bytes();
     let [p0, p1] = place.to_le_bytes();
-    [8, 0, Kind::Refused.byte(), 0, a, b, c, d, r0, r1, p0, p1]
+    [8, 0, u8::from(Kind::Refused), 0, a, b, c, d, r0, r1, p0, p1]
 }
 
 // Whether `head` bytes and `count` times `each` fit into `len` behind those used.

@@ -52,7 +52,7 @@ pub enum Part {
 }
 
 // What one record says where it stands, or that the page has ended.
-// The end is a variant and no `None` around the others, so that one match names all four.
+// The end is a step like the others, with the part before it and the part after it; a `None` for it would split each rule of steps in two.
 #[derive(Clone, Copy, Debug, PartialEq, Eq)]
 pub enum Step {
     Begin(u32),

@@ -4,10 +4,10 @@
 mod decode;
 mod encode;
 pub mod fault;
-mod kind;
 pub mod kinds;
 pub mod order;
 mod record;
+mod record_kind;
 mod steps;
 pub mod walk;
 pub mod writer;

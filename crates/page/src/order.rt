@@ -20,7 +20,7 @@ pub enum TotalKind {
     SumThenWorst = 3,
 }
 
-// An order whose two codes are known.
+// An order whose two codes are known. Not one generic type with `Order`: each mention would name two types for what one name says.
 #[derive(Clone, Copy, Debug, PartialEq, Eq)]
 pub struct KnownOrder {
     pub measure: MeasureKind,
@@ -29,9 +29,9 @@ pub struct KnownOrder {
     pub tolerance: u64,
 }
 
-// A code that names nothing.
+// A number that names nothing where it stands.
 #[derive(Clone, Copy, Debug, PartialEq, Eq)]
-pub struct UnknownCode(pub u8);
+pub struct UnknownCode(pub u16);
 
 impl TryFrom<u8> for MeasureKind {
     type Error = UnknownCode;
@@ -43,7 +43,7 @@ impl TryFrom<u8> for MeasureKind {
             1 => Ok(MeasureKind::Synchronous),
             2 => Ok(MeasureKind::Distance),
             3 => Ok(MeasureKind::Area),
-            _ => Err(UnknownCode(code)),
+            _ => Err(UnknownCode(u16::from(code))),
         }
     }
 }
@@ -59,7 +59,7 @@ impl TryFrom<u8> for TotalKind {
             1 => Ok(TotalKind::Sum),
             2 => Ok(TotalKind::Worst),
             3 => Ok(TotalKind::SumThenWorst),
-            _ => Err(UnknownCode(code)),
+            _ => Err(UnknownCode(u16::from(code))),
         }
     }
 }

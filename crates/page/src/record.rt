@@ -5,8 +5,8 @@ ghost use Rattle.page.specs.Records.{known, sized, front};
 ghost use Rattle.page.specs.Walks.{alone_of, front_of};
 
 use crate::fault::{PageCause, PageFault};
-use crate::kind::Kind;
 use crate::kinds::{Placed, Record};
+use crate::record_kind::Kind;
 
 // A payload of N bytes.
 fn of_length<const N: usize>(payload: &[u8]) -> Result<&[u8; N], PageCause>

@@ -9,7 +9,7 @@ use lines::output::LONGEST;
 use std::alloc::Global;
 use std::io::Read;
 
-// What is printed of an input. Of one that is too long for a page no more is read than shows it.
+// What is printed of an input. It is read up to one byte past the longest page, which is enough to refuse a longer one.
 fn printed<R: Read + Drop>(heap: Global, input: R) -> anyhow::Result<String>
     ensures { IfOk result (λ text. IfSome (R.remaining input) (λ bs. string_bytes text ≡ program_text bs)) }
 {

@@ -11,6 +11,7 @@ use total::total::Total;
 
 // The chords of each point's best chain, the point before it there, and the chain's total.
 // A rule of the project: the caller lends the tables, and a count of 0 past the first point says that no chain leads there.
+// How many entries they have is asked where one is read or written, as a slice asks it: of another number each time.
 #[derive(Drop)]
 pub(crate) struct Tables<'a, T> {
     pub(crate) counts: &'a mut [u16],
@@ -62,7 +63,7 @@ impl<T: Total> Tables<'_, T> {
         ensures { list.new ≡ trail self.now.preds.now last (length list.old) }
     {
         let mut at = last;
-        // By index: of a slice's iter_mut a proof knows the length alone.
+        // By index: a proof does not know what a slice holds after `iter_mut`.
         for left in (0..list.len()).rev() {
             list[left] = at;
             at = self.preds[at as usize - 1];

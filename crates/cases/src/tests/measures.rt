@@ -1,5 +1,5 @@
 // What measures and layers answer for chords of the worked strokes, and what they bar.
-use super::{hook, wave};
+use super::{drawn, hook, wave};
 use measure::area::Area;
 use measure::corners::Corners;
 use measure::distance::Distance;
@@ -8,7 +8,7 @@ use measure::span::Span;
 use measure::synchronous::Synchronous;
 use std::process::Abort;
 use std::test::Fail;
-use tray::tray::{Lifted, Writing};
+use tray::tray::Lifted;
 
 // The answers for the chords of five points that pass over a point: 1–3, 1–4, 1–5, 2–4, 2–5 and 3–5.
 fn errors<M: Measure>(measure: &M, stroke: &Lifted) -> [Option<u64>; 6] {
@@ -95,11 +95,7 @@ fn spans_bar_above(rt: HostRuntime) -> Result<(), Fail> {
 
 #[test]
 fn distance_to_one_place(rt: HostRuntime) -> Result<(), Fail> {
-    let mut tray = Writing::new();
-    tray.put(7, 7, 0)?;
-    tray.put(10, 11, 1)?;
-    tray.put(7, 7, 2)?;
-    let stroke = tray.lift();
+    let stroke = drawn([(7, 7, 0), (10, 11, 1), (7, 7, 2)])?.lift();
     assert_eq!(rt; Distance.error(&stroke, 1, 3), Some(25));
     assert_eq!(rt; Area.error(&stroke, 1, 3), Some(0));
     assert_eq!(rt; Synchronous.error(&stroke, 1, 3), Some(25));

@@ -1,5 +1,5 @@
 // Pages written and read: a stroke there and back, answers, and what is refused.
-use super::tells;
+use super::refuses;
 use page::fault::PageFault;
 use page::kinds::{Order, Point, Record, Step, Totals};
 use page::order::KnownOrder;
@@ -39,16 +39,6 @@ fn told(number: u16, place: usize) -> Told {
     }
 }
 
-// The call was refused with this number, at this place.
-fn refuses<T: Drop>(
-    rt: &impl Abort,
-    said: Result<T, PageFault>,
-    number: u16,
-    place: usize,
-) -> Result<(), Fail> {
-    tells(rt, said, told(number, place))
-}
-
 #[test]
 fn stroke_is_written(rt: HostRuntime) -> Result<(), Fail> {
     let mut page = [0; 38];
@@ -56,7 +46,13 @@ fn stroke_is_written(rt: HostRuntime) -> Result<(), Fail> {
     assert_eq!(rt; writer.append(&mut page, 7, &[CORNER], ORDER)?, 38);
     assert_eq!(rt; writer.used, 38);
     assert_eq!(rt; page, STROKE);
-    refuses(&rt, writer.append(&mut page, 8, &[], ORDER), 16, 38)?;
+    refuses(
+        &rt,
+        Layer::Page,
+        writer.append(&mut page, 8, &[], ORDER),
+        16,
+        38,
+    )?;
     assert_eq!(rt; writer.used, 38);
     assert_eq!(rt; page, STROKE);
     Ok(())
@@ -95,8 +91,8 @@ fn refused_step_moves_nothing(rt: HostRuntime) -> Result<(), Fail> {
     let mut walk = Walk::new(&STROKE[0..20]);
     assert_eq!(rt; walk.step()?, Step::Begin(7));
     assert_eq!(rt; walk.step()?, Step::Point(CORNER));
-    refuses(&rt, walk.step(), 14, 20)?;
-    refuses(&rt, walk.step(), 14, 20)?;
+    refuses(&rt, Layer::Page, walk.step(), 14, 20)?;
+    refuses(&rt, Layer::Page, walk.step(), 14, 20)?;
     assert_eq!(rt; walk.place, 20);
     Ok(())
 }
@@ -161,11 +157,11 @@ fn coded(page: &mut [u8], measure: u8, total: u8) -> Result<usize, PageFault> {
 #[test]
 fn codes_come_before_room(rt: HostRuntime) -> Result<(), Fail> {
     let mut page = [9; 25];
-    refuses(&rt, coded(&mut page, 0, 1), 15, 0)?;
-    refuses(&rt, coded(&mut page, 4, 1), 15, 0)?;
-    refuses(&rt, coded(&mut page, 1, 0), 15, 0)?;
-    refuses(&rt, coded(&mut page, 3, 4), 15, 0)?;
-    refuses(&rt, coded(&mut page, 3, 3), 16, 0)?;
+    refuses(&rt, Layer::Page, coded(&mut page, 0, 1), 15, 0)?;
+    refuses(&rt, Layer::Page, coded(&mut page, 4, 1), 15, 0)?;
+    refuses(&rt, Layer::Page, coded(&mut page, 1, 0), 15, 0)?;
+    refuses(&rt, Layer::Page, coded(&mut page, 3, 4), 15, 0)?;
+    refuses(&rt, Layer::Page, coded(&mut page, 3, 3), 16, 0)?;
     assert_eq!(rt; page, [9; 25]);
     assert_eq!(rt; coded(&mut [9; 26], 3, 3)?, 26);
     Ok(())
@@ -186,10 +182,22 @@ fn answers_are_written(rt: HostRuntime) -> Result<(), Fail> {
     let mut page = [0; 42];
     let mut writer = Writer::new();
     assert_eq!(rt; writer.append_kept(&mut page, 7, totals, &[1, 2, 5])?, 30);
-    refuses(&rt, writer.append_kept(&mut page, 9, totals, &[]), 16, 30)?;
+    refuses(
+        &rt,
+        Layer::Page,
+        writer.append_kept(&mut page, 9, totals, &[]),
+        16,
+        30,
+    )?;
     assert_eq!(rt; writer.append_refused(&mut page, 8, 5, 0)?, 42);
     assert_eq!(rt; writer.used, 42);
-    refuses(&rt, writer.append_refused(&mut page, 9, 5, 0), 16, 42)?;
+    refuses(
+        &rt,
+        Layer::Page,
+        writer.append_refused(&mut page, 9, 5, 0),
+        16,
+        42,
+    )?;
     assert_eq!(rt; page, ANSWERS);
     Ok(())
 }
@@ -203,6 +211,7 @@ fn kept_record_needs_room(rt: HostRuntime) -> Result<(), Fail> {
     let mut writer = Writer::new();
     refuses(
         &rt,
+        Layer::Page,
         writer.append_kept(&mut [9; 29], 7, totals, &[1, 2, 5]),
         16,
         0,

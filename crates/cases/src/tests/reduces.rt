@@ -1,5 +1,5 @@
 // Reduces of the hook and of smaller strokes: what is kept, what the tables and the list hold, and what is refused.
-use super::{hook, refuses, wave};
+use super::{drawn, hook, refuses, wave};
 use measure::area::Area;
 use measure::corners::Corners;
 use measure::measure::Measure;
@@ -7,6 +7,7 @@ use measure::span::Span;
 use measure::synchronous::Synchronous;
 use reducer::answer::Answer;
 use reducer::reduce::reduce;
+use refusal::Layer;
 use std::fmt::Debug;
 use std::process::Abort;
 use std::test::Fail;
@@ -189,6 +190,7 @@ fn span_0_leaves_points_unreached(rt: HostRuntime) -> Result<(), Fail> {
     let mut totals = [NO_SUM; 6];
     refuses(
         &rt,
+        Layer::Tray,
         run(&hook, &spanned(0), 5, &mut lent, &mut totals),
         9,
         5,
@@ -202,12 +204,7 @@ fn span_0_leaves_points_unreached(rt: HostRuntime) -> Result<(), Fail> {
 
 // Two points, and two more after a time of 8.
 fn parted() -> Result<Lifted, Refusal> {
-    let mut tray = Writing::new();
-    tray.put(0, 0, 0)?;
-    tray.put(0, 0, 1)?;
-    tray.put(0, 0, 9)?;
-    tray.put(0, 0, 10)?;
-    Ok(tray.lift())
+    Ok(drawn([(0, 0, 0), (0, 0, 1), (0, 0, 9), (0, 0, 10)])?.lift())
 }
 
 #[test]
@@ -217,6 +214,7 @@ fn points_after_a_gap_are_unreached(rt: HostRuntime) -> Result<(), Fail> {
     let mut totals = [NO_SUM; 6];
     refuses(
         &rt,
+        Layer::Tray,
         run(&stroke, &spanned(2), 5, &mut lent, &mut totals),
         9,
         4,
@@ -247,7 +245,7 @@ fn one_point_is_kept(rt: HostRuntime) -> Result<(), Fail> {
         &mut totals,
         &mut [],
     );
-    refuses(&rt, said, 10, 1)?;
+    refuses(&rt, Layer::Tray, said, 10, 1)?;
     assert_eq!(rt; counts, [0]);
     assert_eq!(rt; preds, [0]);
     assert_eq!(rt; totals, [Sum { sum: 0 }]);
@@ -284,7 +282,7 @@ fn short_list_is_refused(rt: HostRuntime) -> Result<(), Fail> {
     let mut totals = [NO_SUM; 6];
     let mut list = [9; 2];
     let said = reduce_hook(&mut lent.counts, &mut lent.preds, &mut totals, &mut list);
-    refuses(&rt, said, 10, 3)?;
+    refuses(&rt, Layer::Tray, said, 10, 3)?;
     assert_eq!(rt; list, [9; 2]);
     assert_eq!(rt; lent.counts, [0, 1, 1, 2, 2, 9]);
     assert_eq!(rt; lent.preds, [0, 1, 1, 2, 2, 9]);
@@ -299,16 +297,16 @@ fn short_tables_are_refused(rt: HostRuntime) -> Result<(), Fail> {
     let mut lent = BLANK;
     let mut totals = [NO_SUM; 6];
     let said = reduce_hook(&mut short, &mut lent.preds, &mut totals, &mut lent.list);
-    refuses(&rt, said, 8, 5)?;
+    refuses(&rt, Layer::Tray, said, 8, 5)?;
     let said = reduce_hook(&mut lent.counts, &mut short, &mut totals, &mut lent.list);
-    refuses(&rt, said, 8, 5)?;
+    refuses(&rt, Layer::Tray, said, 8, 5)?;
     let said = reduce_hook(
         &mut lent.counts,
         &mut lent.preds,
         &mut short_totals,
         &mut lent.list,
     );
-    refuses(&rt, said, 8, 5)?;
+    refuses(&rt, Layer::Tray, said, 8, 5)?;
     assert_eq!(rt; short, [9; 4]);
     assert_eq!(rt; short_totals, [NO_SUM; 4]);
     assert_eq!(rt; totals, [NO_SUM; 6]);
@@ -324,12 +322,14 @@ fn refused_before_filling(rt: HostRuntime) -> Result<(), Fail> {
     let bare = Writing::new().lift();
     refuses(
         &rt,
+        Layer::Tray,
         run(&bare, &Synchronous, 5, &mut lent, &mut totals),
         5,
         0,
     )?;
     refuses(
         &rt,
+        Layer::Tray,
         run(&bare, &Synchronous, u64::MAX, &mut lent, &mut none),
         5,
         0,
@@ -337,18 +337,21 @@ fn refused_before_filling(rt: HostRuntime) -> Result<(), Fail> {
     let hook = hook()?.lift();
     refuses(
         &rt,
+        Layer::Tray,
         run(&hook, &Synchronous, LIMIT + 1, &mut lent, &mut totals),
         7,
         0,
     )?;
     refuses(
         &rt,
+        Layer::Tray,
         run(&hook, &Synchronous, u64::MAX, &mut lent, &mut totals),
         7,
         0,
     )?;
     refuses(
         &rt,
+        Layer::Tray,
         run(&hook, &Synchronous, u64::MAX, &mut lent, &mut none),
         7,
         0,

@@ -1,12 +1,12 @@
 -- The laws hold of every page, and so of the pages of this run, since their elements are bytes.
-use Rattle.std.proofs.Common.{◌≡◌, Err, sym, subst, rules}
+use Rattle.std.proofs.Common.{sym, rules}
 use Rattle.std.proofs.ByRecursion.{All-from_get_or}
 use Rattle.page.specs.Fits.{Byte}
 use Rattle.page.specs.Steps.{reading}
-use Rattle.job.specs.Jobs.{to_read, RunSide}
+use Rattle.job.specs.Jobs.{to_read}
 use Rattle.job.proofs.Answerings.{holds_the_answers, own_records_alone}
 use Rattle.job.proofs.Fitting.{fits_the_page}
-use Rattle.job.proofs.Nexts.{leaves_on, stops_on_side}
+use Rattle.job.proofs.Nexts.{leaves_on}
 use Rattle.job.proofs.next.run.Goals as goal
 
 pub loop-preserved : goal.loop-preserved
@@ -15,14 +15,6 @@ loop-preserved c =
       search rules,
       leaves_on (reading c.args.page.now).strokes _ (to_read j).ending j.count j.writer.used c.loop.answers c.next.new.self c.next.new.answers c.loop.invariant.1 c.in_ok-next.field-0 (sym c.if-is_some.ensures) c.in_ok-next.ensures.next,
     )
-
-pub returns-in_err-next-clause-side : goal.returns-in_err-next-clause-side
-returns-in_err-next-clause-side c =
-    let bs = c.args.page.now in
-    let j = c.loop.job in
-    let f = c.in_err-next.field-0.0 in
-    let told : c.from_residual.result ≡ Err f = search rules in
-    subst (RunSide (reading bs).strokes) (sym told) (stops_on_side (reading bs).strokes _ (to_read j).ending j.count j.writer.used c.loop.answers c.next.new.self c.next.new.answers c.loop.invariant.1 f c.in_err-next.ensures.side c.in_err-next.ensures.next)
 
 pub returns-in_err-next-clause-fits : goal.returns-in_err-next-clause-fits
 returns-in_err-next-clause-fits c = let bs = c.args.page.now in fits_the_page bs c.args.answers.now (All-from_get_or Byte bs 0 (λ i _. (c.type_inv.page i).fits))

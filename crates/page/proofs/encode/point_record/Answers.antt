@@ -31,6 +31,6 @@ returns c =
     let fy : SFits w16 c.args.p.y = search rules in
     let ft : c.args.p.t < 2 ^ 32 = search rules in
     record {
-      bytes = whole c.args.p _ _ _ _ _ _ (c.byte-kind.ensures ∙ c.from.ensures) c.to_le_bytes.ensures (ap (of_z w16) (to_z-of_z w16 c.args.p.x fx)) c.to_le_bytes-2.ensures (ap (of_z w16) (to_z-of_z w16 c.args.p.y fy)) c.to_le_bytes-3.ensures;
+      bytes = whole c.args.p _ _ _ _ _ _ (c.from-kind.ensures ∙ c.from.ensures) c.to_le_bytes.ensures (ap (of_z w16) (to_z-of_z w16 c.args.p.x fx)) c.to_le_bytes-2.ensures (ap (of_z w16) (to_z-of_z w16 c.args.p.y fy)) c.to_le_bytes-3.ensures;
       fits = record { x = fx; y = fy; t = ft };
     }

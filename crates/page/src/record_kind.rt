@@ -3,6 +3,7 @@ ghost use Rattle.std.specs.Prelude.{◌≡◌};
 ghost use Rattle.page.specs.Kinds.{kind_number, NamesKind};
 ghost use Rattle.page.specs.Strokes.{mark_kind};
 
+use crate::order::UnknownCode;
 use tray::point::Mark;
 
 // A page of strokes has the first four, a page of answers the last two.
@@ -16,16 +17,12 @@ pub(crate) enum Kind {
     Refused = 6,
 }
 
-// A number that no kind has.
-#[derive(Clone, Copy, Debug, PartialEq, Eq)]
-pub(crate) struct UnknownKind(pub(crate) u16);
-
 impl TryFrom<u16> for Kind {
-    type Error = UnknownKind;
+    type Error = UnknownCode;
 
     ghost try_from_gives = { NamesKind };
 
-    fn try_from(number: u16) -> Result<Kind, UnknownKind> {
+    fn try_from(number: u16) -> Result<Kind, UnknownCode> {
         match number {
             1 => Ok(Kind::Start),
             2 => Ok(Kind::Plain),
@@ -33,17 +30,17 @@ impl TryFrom<u16> for Kind {
             4 => Ok(Kind::Order),
             5 => Ok(Kind::Kept),
             6 => Ok(Kind::Refused),
-            _ => Err(UnknownKind(number)),
+            _ => Err(UnknownCode(number)),
         }
     }
 }
 
-impl Kind {
-    // The low byte of its number; the high one is 0.
-    pub(crate) fn byte(self) -> u8
-        ensures { result ≡ kind_number self }
-    {
-        self as u8
+// The low byte of its number; the high one is 0.
+impl From<Kind> for u8 {
+    ghost from_gives = { λ k n. n ≡ kind_number k };
+
+    fn from(kind: Kind) -> u8 {
+        kind as u8
     }
 }
 
