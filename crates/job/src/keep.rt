@@ -1,4 +1,5 @@
 // A lifted stroke reduced as an order asks, with tables and a list of the job's own.
+// Stroke and order go through all three functions: a struct of both would be made once and taken apart at once.
 ghost use Rattle.std.specs.Prelude.{◌≡◌, replicate};
 ghost use Rattle.tray.specs.Trays.{stroke as stroke_of};
 ghost use Rattle.page.specs.Codes.{coded};

@@ -42,7 +42,7 @@ impl fmt::Display for Figures {
     }
 }
 
-// The kept numbers and the figures, or the refusal.
+// The kept numbers and the figures, or the refusal, as `Told` prints it but for the layer.
 #[derive(Clone, Copy)]
 struct Reply<'a>(&'a Answered);
 
