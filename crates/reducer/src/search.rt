@@ -84,7 +84,8 @@ impl<M: Measure> Search<'_, M> {
         ensures same { SameTables tables.old tables.new }
         ensures relaxed { Relaxed (asked T.Total M.meaning self.now) (length (stroke_of self.now.stroke.now)) tables.old.counts.now tables.old.preds.now tables.old.totals.now tables.new.counts.now tables.new.preds.now tables.new.totals.now }
     {
-        for j in 1..=self.points() {
+        let n = self.points();
+        for j in 1..=n {
             let found = self.best_step(tables, j);
             tables.set(j, found.unwrap_or(Step::none()));
         }

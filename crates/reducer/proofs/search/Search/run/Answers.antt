@@ -1,4 +1,4 @@
-use Rattle.std.proofs.Common.{◌≡◌, ◌+◌, ◌-◌, length, drop, sym, refl, ap, ◌∙◌, subst, arith}
+use Rattle.std.proofs.Common.{◌≡◌, ◌+◌, ◌-◌, ◌≤◌, length, drop, sym, refl, ap, ◌∙◌, subst, arith}
 use Rattle.std.proofs.lemmas.List.{take_at, drop_at, length-take-le}
 use Rattle.std.specs.Result.{result_ok}
 use Rattle.tray.specs.Trays.{stroke}
@@ -27,14 +27,25 @@ overflow_add-needed g c =
 
 pub returns-then-list-count-clause-outcome : goal.returns-then-list-count-clause-outcome
 returns-then-list-count-clause-outcome g c =
+    let ps = stroke c.args.self.now.stroke.now in
+    let k = asked g.T.Total g.M.Measure.meaning c.args.self.now in
+    let best = c.in_ok-best.best in
     let end = known g (goal.at.returns-then-list-count-clause-outcome g c).In_ok-best in
-    record { searched = end.searched _; counted = omega arith; total = _; points = _; answered = end.answered; room = c.if-list-count.true; same = refl }
+    record {
+      searched = end.searched _;
+      counted = omega arith;
+      total = _;
+      points = _;
+      answered = subst (λ m. Answered k (length ps) m best.total (trail c.relax.new.tables.preds.now c.points-n.result (best.chords + 1))) (omega arith) end.answered;
+      room = omega (arith, c.if-list-count.true);
+      same = refl;
+    }
 
 pub walk-requires : goal.walk-requires
 walk-requires g c =
     let n = c.points-n.result in
     let end = known g (goal.at.walk-requires g c).In_ok-best in
-    subst (λ m. Led c.relax.new.tables.preds.now n m) (sym (length-take-le (c.in_ok-best.best.chords + 1) c.args.list.now c.if-list-count.false)) end.led
+    subst (λ m. Led c.relax.new.tables.preds.now n m) (sym (length-take-le (c.in_ok-best.best.chords + 1) c.args.list.now (omega (arith, c.if-list-count.false)))) end.led
 
 pub returns-clause-outcome : goal.returns-clause-outcome
 returns-clause-outcome g c =
@@ -43,13 +54,14 @@ returns-clause-outcome g c =
     let k = asked g.T.Total g.M.Measure.meaning c.args.self.now in
     let end = known g (goal.at.returns-clause-outcome g c).In_ok-best in
     let count = c.in_ok-best.best.chords + 1 in
-    let size = length-take-le count c.args.list.now c.if-list-count.false in
+    let room : count ≤ length c.args.list.now = omega (arith, c.if-list-count.false) in
+    let size = length-take-le count c.args.list.now room in
     let long : length c.walk.new.list ≡ count = c.walk.auto.list ∙ size in
     let kept : c.walk.new.list ≡ trail c.relax.new.tables.preds.now n count = subst (λ m. c.walk.new.list ≡ trail c.relax.new.tables.preds.now n m) size c.walk.ensures in
     record {
       searched = end.searched _;
       counted = omega arith;
-      room = c.if-list-count.false;
+      room = room;
       answered = subst (λ ks. Answered k (length ps) (count - 1) c.in_ok-best.best.total ks) (sym (take_at c.walk.new.list _ count long ∙ kept)) end.answered;
       rest = drop_at c.walk.new.list (drop count c.args.list.now) count long;
     }
