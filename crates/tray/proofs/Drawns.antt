@@ -9,13 +9,10 @@ use Rattle.tray.specs.declared.point.Mark.TheVariants.{Plain, Corner}
 use Rattle.tray.specs.Stroke.{Lawful, at, origin}
 use Rattle.tray.specs.Machine.{plain, marked, put_after, take_back_after, mark_after, lacks}
 use Rattle.tray.specs.History.{State, Pen, down, up, at_pen, Call, put, take_back, lift, mark, unmark, clear, reduce, History, ◌▸◌, new, step, step_at, run}
-use Rattle.tray.specs.Drawn.{Permits, Permitted, Drawn, DrawsExactly, fresh, added, kept_out, taken_back, none_back, lifted, cornered, not_cornered, plained, not_plained, cleared, reduced}
+use Rattle.tray.specs.Drawn.{Permits, Permitted, Drawn, fresh, added, kept_out, taken_back, none_back, lifted, cornered, not_cornered, plained, not_plained, cleared, reduced}
+use Rattle.tray.proofs.Histories.{run_more}
 use Rattle.tray.proofs.Puts.{does_add}
 use Rattle.tray.proofs.Lawfuls.{stays_lawful, on_sheet, rises, not_late, not_full, pushed, outcome, taken}
-
-run_more : (s : State) (h : History) (c : Call) → run s (h ▸ c) ≡ step (run s h) c
-run_more s [] c = refl
-run_more s (b ∷ h) c = run_more (step s b) h c
 
 -- one call more, where the state before it is known
 on : (h : History) (c : Call) (s : State) → run new h ≡ s → run new (h ▸ c) ≡ step s c
@@ -135,6 +132,3 @@ drawn_from g s (c ∷ h) q d =
 
 pub run_draws : (h : History) → Permitted new h → Drawn h (run new h).pen (run new h).points
 run_draws h q = drawn_from [] new h q fresh
-
-pub draws_exactly : DrawsExactly
-draws_exactly = (run_draws, λ h n ps d. (ap (λ (s : State). s.pen) (drawn_is d), ap (λ (s : State). s.points) (drawn_is d)))

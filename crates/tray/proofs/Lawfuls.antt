@@ -1,18 +1,19 @@
 -- Every history keeps the limits, and a put is taken exactly where they would still hold.
-use Rattle.std.proofs.Common.{◌≡◌, ℕ, ◌+◌, ◌-◌, ◌<◌, ◌≤◌, true, false, ◌⊎◌, List, [], ◌∷◌, ◌++◌, length, ℤ, is_ok, sym, refl, ap, ◌∙◌, subst, inl, inr, arith}
+use Rattle.std.proofs.Common.{◌≡◌, ℕ, ◌+◌, ◌-◌, ◌<◌, ◌≤◌, true, false, ◌&&◌, ltb, leb, ◌⊎◌, List, [], ◌∷◌, ◌++◌, length, ℤ, is_ok, sym, refl, ap, ◌∙◌, subst, inl, inr, arith}
 use borrow.Author.Differences.{ints}
-use Rattle.std.proofs.lemmas.List.{get_or_append_left, get_or_push, length_push}
-use Rattle.std.proofs.lemmas.Bool.{cases_eq, cases_Bool, both_ways}
+use Rattle.std.proofs.lemmas.List.{get_or_append_left, get_or_push, length_push, length-set}
+use Rattle.std.proofs.lemmas.Bool.{cases_eq, cases_Bool, ltb-false, leb-false, lt-ltb, both_ways}
 use Rattle.std.proofs.lemmas.Bool.Decides.{nat_tests}
 use Rattle.tray.specs.declared.point.Point.{Point}
 use Rattle.tray.specs.declared.point.Mark.{Mark}
 use Rattle.tray.specs.declared.point.Mark.TheVariants.{Plain, Corner}
 use Rattle.tray.specs.Stroke.{at, origin, Lawful}
-use Rattle.tray.specs.Machine.{off_sheet, stopped, late, full, plain, put_says, put_after, take_back_after, mark_after, lacks}
+use Rattle.tray.specs.Machine.{refusal, off_sheet, stopped, late, full, plain, put_says, put_after, take_back_after, mark_after, lacks, marked}
 use Rattle.tray.specs.History.{State, Pen, down, up, Call, put, take_back, lift, mark, unmark, clear, reduce, History, new, step, step_at, run}
 use Rattle.tray.specs.Drawn.{StaysLawful, TakesTheLawful}
-use Rattle.tray.proofs.Tables.{lawful_front, lawful_turned}
-use Rattle.tray.proofs.Puts.{does_add}
+use Rattle.tray.proofs.Fronts.{lawful_front}
+use Rattle.tray.proofs.Tables.{limits_turned}
+use Rattle.tray.proofs.Puts.{Does, does_off, does_stopped, does_late, does_full, does_add}
 
 bare : Lawful []
 bare = record { few = omega arith; placed = λ k l. absurd (omega arith); rising = λ i j l m. absurd (omega arith); short = λ k l. absurd (omega arith) }
@@ -32,16 +33,16 @@ module _ (ps : List Point) (vx vy : ℤ) (vt : ℕ) where
 
   -- the last time is below the new one, and the new one is not late
   after_last : stopped ps vt ≡ false → 0 < length ps → (at ps (length ps - 1)).t < vt
-  after_last e l = grind (arith, nat_tests)
+  after_last e l = leb-false vt _ (sym (ap (λ b. b && leb vt (at ps (length ps - 1)).t) (lt-ltb 0 (length ps) l)) ∙ e)
 
   in_time : late ps vt ≡ false → 0 < length ps → vt ≤ (at ps 0).t + 8191
-  in_time e l = grind (arith, nat_tests)
+  in_time e l = ltb-false _ vt (sym (ap (λ b. b && ltb ((at ps 0).t + 8191) vt) (lt-ltb 0 (length ps) l)) ∙ e)
 
   pub pushed : Lawful ps → off_sheet vx vy ≡ false → stopped ps vt ≡ false → late ps vt ≡ false → full ps ≡ false → Lawful qs
   pushed w e f g h =
       let n : length qs ≡ length ps + 1 = length_push ps p in
       record {
-        few = grind (arith, nat_tests);
+        few = let r : length ps < 512 = leb-false 512 (length ps) h in omega arith;
         placed = λ k l. elim (cases_eq k (length ps)) [
           | inl z ↦ rw (z, newest) (grind (arith, ints), grind (arith, ints), grind (arith, ints), grind (arith, ints))
           | inr z ↦ let i : k < length ps = omega arith in rw (old k i) (w.placed k i)
@@ -95,18 +96,20 @@ module _ (ps : List Point) (vx vy : ℤ) (vt : ℕ) where
   pub taken : Lawful qs → is_ok (put_says ps vx vy vt) ≡ true
   taken w = sym (ap is_ok (does_add ps vx vy vt (on_sheet w) (rises w) (not_late w) (not_full w)).0)
 
+  refused : {n q : ℕ} → Does ps vx vy vt (refusal n q) ps → (put_after ps vx vy vt ≡ ps) × (is_ok (put_says ps vx vy vt) ≡ false)
+  refused d = (sym d.1, sym (ap is_ok d.0))
+
   -- either some cause holds, and nothing changes, or none does
   pub outcome : ((put_after ps vx vy vt ≡ ps) × (is_ok (put_says ps vx vy vt) ≡ false))
       ⊎ ((off_sheet vx vy ≡ false) × (stopped ps vt ≡ false) × (late ps vt ≡ false) × (full ps ≡ false))
-  unfolding put_says put_after
   outcome = elim (cases_Bool (off_sheet vx vy)) [
-    | inl e ↦ inl (rw e, rw e)
+    | inl e ↦ inl (refused (does_off ps vx vy vt e))
     | inr e ↦ elim (cases_Bool (stopped ps vt)) [
-      | inl f ↦ inl (rw (e, f), rw (e, f))
+      | inl f ↦ inl (refused (does_stopped ps vx vy vt e f))
       | inr f ↦ elim (cases_Bool (late ps vt)) [
-        | inl g ↦ inl (rw (e, f, g), rw (e, f, g))
+        | inl g ↦ inl (refused (does_late ps vx vy vt e f g))
         | inr g ↦ elim (cases_Bool (full ps)) [
-          | inl h ↦ inl (rw (e, f, g, h), rw (e, f, g, h))
+          | inl h ↦ inl (refused (does_full ps vx vy vt e f g h))
           | inr h ↦ inr (e, f, g, h)
         ]
       ]
@@ -126,12 +129,18 @@ module _ (ps : List Point) (vx vy : ℤ) (vt : ℕ) where
   ]
 
 kept_by_take_back : (ps : List Point) → Lawful ps → Lawful (take_back_after ps)
-kept_by_take_back ps w = lawful_front ps (length ps - 1) (omega arith) w
+kept_by_take_back ps w =
+    lawful_front ps (length ps - 1) (omega arith) (omega (arith, w.few))
+    (λ k l. w.placed k (omega arith)) (λ i j l m. w.rising i j l (omega arith)) (λ k l. w.short k (omega arith))
 
 kept_by_mark : (b : Mark) (ps : List Point) (i : ℕ) → Lawful ps → Lawful (mark_after b ps i)
 kept_by_mark b ps i w = elim (cases_Bool (lacks ps i)) [
   | inl e ↦ rw e w
-  | inr e ↦ rw e (lawful_turned ps (i - 1) (at ps (i - 1)) b (grind (arith, nat_tests)) refl w)
+  | inr e ↦
+      let h : i - 1 < length ps = grind (arith, nat_tests) in
+      let n = length-set ps (i - 1) (marked b (at ps (i - 1))) in
+      let k = limits_turned ps (i - 1) b h (length ps) w.placed w.rising w.short in
+      rw e (record { few = rw n w.few; placed = rw n k.0; rising = rw n k.1; short = rw n k.2 })
 ]
 
 kept_at : (n : Pen) (ps : List Point) (c : Call) → Lawful ps → Lawful (step_at n ps c).points

@@ -3,7 +3,7 @@
 --   writing   a tray with the pen down, as a state
 --   lifted    a tray with the pen up, as a state
 --   stroke    the points of a lifted stroke
-use Rattle.std.specs.Prelude.{List}
+use Rattle.std.specs.Prelude.{List, take}
 use Rattle.tray.specs.declared.point.Point.{Point}
 use Rattle.tray.specs.declared.table.Table.{Table}
 use Rattle.tray.specs.declared.tray.Writing.{Writing}
@@ -11,7 +11,7 @@ use Rattle.tray.specs.declared.tray.Lifted.{Lifted}
 use Rattle.tray.specs.History.{State, at_pen, down, up}
 
 abbrev pub points : Table → List Point
-points m = m.points.items
+points m = take m.len m.points
 
 abbrev pub writing : Writing → State
 writing w = at_pen down (points w.table)

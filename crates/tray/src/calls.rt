@@ -85,6 +85,6 @@ impl Lifted {
         ensures value { result.now ≡ stroke self.now }
         ensures lawful { Lawful result.now }
     {
-        self.table.points.as_slice()
+        &self.table.points[0..self.table.len]
     }
 }

@@ -5,5 +5,5 @@ pub mod calls;
 pub mod causes;
 pub mod point;
 mod steps;
-mod table;
+pub mod table;
 pub mod tray;

@@ -7,7 +7,6 @@ ghost use Rattle.tray.specs.Machine.{off_sheet, stopped, late, put_says, put_aft
 use crate::causes::Refusal;
 use crate::point::{Mark, Point};
 use crate::table::Table;
-use arrayvec::ArrayVec;
 
 // Whether x or y is no place on the sheet.
 fn is_off_sheet(x: i32, y: i32) -> bool
@@ -23,7 +22,8 @@ impl Table {
         ensures { points_of result ≡ [] }
     {
         Table {
-            points: ArrayVec::new(),
+            points: [Point::default(); 512],
+            len: 0,
         }
     }
 
@@ -31,25 +31,23 @@ impl Table {
     fn is_stopped(&self, t: u32) -> bool
         ensures { result ≡ stopped (points_of self.now) t }
     {
-        self.points.last().is_some_and(|p| t <= p.t)
+        0 < self.len && t <= self.points[self.len - 1].t
     }
 
     // Whether the time t is too far above the first one.
     fn is_late(&self, t: u32) -> bool
         ensures { result ≡ late (points_of self.now) t }
     {
-        self.points
-            .first()
-            .is_some_and(|p| 8191 < t.saturating_sub(p.t))
+        0 < self.len && 8191 < t.saturating_sub(self.points[0].t)
     }
 
     // Adds a plain point and answers its number.
-    #[tactic(auto, unfolding(crate::specs::Machine::put_says, crate::specs::Machine::put_after))]
     pub(crate) fn put(&mut self, x: i32, y: i32, t: u32) -> Result<u16, Refusal>
         ensures says { tells result ≡ put_says (points_of self.old) x y t }
         ensures after { points_of self.new ≡ put_after (points_of self.old) x y t }
     {
-        let place = self.points.len() as u16 + 1;
+        let n = self.len;
+        let place = n as u16 + 1;
         if is_off_sheet(x, y) {
             return Err(Refusal::OffSheet(place));
         }
@@ -59,23 +57,30 @@ impl Table {
         if self.is_late(t) {
             return Err(Refusal::LongStroke(place));
         }
-        if self.points.is_full() {
+        if n >= 512 {
             return Err(Refusal::FullTray);
         }
-        let mark = Mark::Plain;
-        self.points.push(Point { x, y, t, mark });
+        self.points[n] = Point {
+            x,
+            y,
+            t,
+            mark: Mark::Plain,
+        };
+        self.len = n + 1;
         Ok(place)
     }
 
     // Removes the last point and answers its number.
-    #[tactic(auto, using(crate::proofs::Tables::lawful_front))]
     pub(crate) fn take_back(&mut self) -> Result<u16, Refusal>
         ensures says { tells result ≡ take_back_says (points_of self.old) }
         ensures after { points_of self.new ≡ take_back_after (points_of self.old) }
     {
-        let number = self.points.len() as u16;
-        self.points.pop().ok_or(Refusal::BareTray)?;
-        Ok(number)
+        let n = self.len;
+        if n == 0 {
+            return Err(Refusal::BareTray);
+        }
+        self.len = n - 1;
+        Ok(n as u16)
     }
 
     // Gives the point i this mark and answers i.
@@ -84,10 +89,11 @@ impl Table {
         ensures after { points_of self.new ≡ mark_after mark (points_of self.old) i }
     {
         let k = i as usize;
-        if k == 0 || self.points.len() < k {
+        if k == 0 || self.len < k {
             return Err(Refusal::NoSuchPoint(i));
         }
-        self.points[k - 1].mark = mark;
+        let point = &mut self.points[k - 1];
+        point.mark = mark;
         Ok(i)
     }
 }
