@@ -1,6 +1,7 @@
 -- What is printed of a reading, call by call of the job.
-use Rattle.std.proofs.Common.{◌≡◌, ℕ, ◌+◌, ◌≤◌, false, ltb, List, [], ◌∷◌, ◌++◌, length, Some, None, Ok, Err, Option, Result, OnOk, sym, ap, ◌∙◌, subst, append_assoc, append-nil, arith, length-append}
+use Rattle.std.proofs.Common.{◌≡◌, ℕ, ◌+◌, ◌≤◌, false, ltb, List, [], ◌∷◌, ◌++◌, length, Some, None, Ok, Err, Option, Result, OnOk, refl, sym, ap, ◌∙◌, subst, append_assoc, append-nil, arith, length-append}
 use Rattle.std.specs.List.{flat_map}
+use Rattle.std.specs.Io.KnownBytes.{Appends}
 use Rattle.std.specs.Result.{result_transpose}
 use Rattle.std.proofs.lemmas.Bool.{le-leb, le-ltb, cond-true, cond-false}
 use Rattle.std.proofs.lemmas.Bool.Decides.{nat_tests}
@@ -90,9 +91,38 @@ pub on_ok : {E P Q : Type 0} (r : Result (Unit {0}) E) → (P → Q) → OnOk r 
 on_ok (Ok u) f h = f h
 on_ok (Err e) f h = tt
 
+pub put_same : {E : Type 0} (r : Result (Unit {0}) E) (old new : Option (List ℕ)) (bs whole : List ℕ) → bs ≡ whole → OnOk r (Appends old new bs) → OnOk r (Appends old new whole)
+put_same r old new bs whole e p = subst (λ v. OnOk r (Appends old new v)) e p
+
+-- what was put and what is left to put are the whole, where the bytes put are known
+abbrev pub Left : Option (List ℕ) → Option (List ℕ) → List ℕ → List ℕ → Type 0
+Left None now left whole = Unit {0}
+Left (Some xs) None left whole = ⊥
+Left (Some xs) (Some ys) left whole = ys ++ left ≡ xs ++ whole
+
 -- one line more of what is left
 pub line_more : (whole text text' line left left' : List ℕ) → text ++ left ≡ whole → text' ≡ text ++ line → left ≡ line ++ left' → text' ++ left' ≡ whole
 line_more whole text text' line left left' p q r = ap (λ v. v ++ left') q ∙ append_assoc text line left' ∙ ap (λ v. text ++ v) (sym r) ∙ p
+
+-- nothing is put yet
+pub left_first : (old : Option (List ℕ)) (left whole : List ℕ) → left ≡ whole → Left old old left whole
+left_first None left whole e = tt
+left_first (Some xs) left whole e = ap (λ v. xs ++ v) e
+
+pub left_more : (old now new : Option (List ℕ)) (whole line left left' : List ℕ) → Left old now left whole → Appends now new line → left ≡ line ++ left' → Left old new left' whole
+left_more None now new whole line left left' p q r = tt
+left_more (Some xs) None new whole line left left' p q r = absurd p
+left_more (Some xs) (Some ys) None whole line left left' p q r = absurd q
+left_more (Some xs) (Some ys) (Some zs) whole line left left' p q r = line_more (xs ++ whole) ys zs line left left' p q r
+
+-- nothing is left to put
+pub left_none : (old now : Option (List ℕ)) (left whole : List ℕ) → left ≡ [] → Left old now left whole → Appends old now whole
+left_none None now left whole e p = tt
+left_none (Some xs) None left whole e p = absurd p
+left_none (Some xs) (Some ys) left whole e p = sym (append-nil ys) ∙ ap (λ v. ys ++ v) (sym e) ∙ p
+
+pub left_last : (old now new : Option (List ℕ)) (whole line left : List ℕ) → Left old now left whole → left ≡ line → Appends now new line → Appends old new whole
+left_last old now new whole line left p r q = left_none old new [] whole refl (left_more old now new whole line left [] p q (r ∙ sym (append-nil line)))
 
 pub lines_in_turn : LinesInTurn
 lines_in_turn ss fits h =

@@ -1,12 +1,14 @@
 // Everything that the program prints: a line for each stroke of a page, and one more where the page is refused.
-ghost use Rattle.std.specs.Prelude.{◌≡◌, ℕ, ◌≤◌, List, ◌++◌, length, Some, IfOk, string_bytes, OnOk};
+ghost use Rattle.std.specs.Prelude.{◌≡◌, ℕ, ◌≤◌, List, length, Some, Option, IfOk, string_bytes, OnOk};
+ghost use Rattle.std.specs.Io.KnownBytes.{Appends};
+ghost use Rattle.refusal.specs.Texts.{refusal_text};
 ghost use Rattle.lines.specs.Output.{with_feed, page_text, refused_input, program_text, LinesInTurn};
 
 use crate::line::StrokeLine;
 use job::job::Job;
 use refusal::{Layer, Told};
 use std::alloc::{AllocError, Global};
-use std::fmt;
+use std::{fmt, io};
 
 // How many bytes a page may have. The answers of such a page need no more.
 pub const LONGEST: usize = 65536;
@@ -29,23 +31,56 @@ impl From<InputCause> for Told {
     }
 }
 
-// Appends a line and ends it.
-fn push_line<L: fmt::Display>(text: &mut String, line: &L) -> Result<(), AllocError>
-    ensures { (bs : List ℕ) → L.output line.now ≡ Some bs → OnOk result (string_bytes text.new ≡ string_bytes text.old ++ with_feed bs) }
-{
-    writeln!(text, "{line}")
+// Where lines are put, one after another: a text, or what is written to.
+trait Lines {
+    // The bytes of the lines so far, where they are known.
+    ghost held: { Self → Option (List ℕ) };
+
+    type Error: From<AllocError>;
+
+    // Appends a line and ends it.
+    fn put<L: fmt::Display>(&mut self, line: &L) -> Result<(), Self::Error>
+        ensures { (bs : List ℕ) → L.output line.now ≡ Some bs → OnOk result (Appends (held self.old) (held self.new) (with_feed bs)) };
 }
 
-// Appends the lines of a page, whose records of answers go to an answer page.
-fn push_page(text: &mut String, page: &[u8], answers: &mut [u8]) -> Result<(), AllocError>
+impl Lines for String {
+    ghost held = { λ text. Some (string_bytes text) };
+
+    type Error = AllocError;
+
+    fn put<L: fmt::Display>(&mut self, line: &L) -> Result<(), AllocError> {
+        writeln!(self, "{line}")
+    }
+}
+
+// A writer, with what a line is made in: each is written at once when it is made.
+#[derive(Drop)]
+struct Written<W> {
+    heap: Global,
+    out: W,
+}
+
+impl<W: io::Write> Lines for Written<W> {
+    ghost held = { λ lines. W.contents lines.out };
+
+    type Error = io::Error;
+
+    fn put<L: fmt::Display>(&mut self, line: &L) -> io::Result<()> {
+        let text = format!(in self.heap; "{line}\n")?;
+        self.out.write_all(text.as_bytes())
+    }
+}
+
+// Puts the lines of a page, whose records of answers go to an answer page.
+fn put_page<L: Lines>(lines: &mut L, page: &[u8], answers: &mut [u8]) -> Result<(), L::Error>
     requires { length page.now ≤ length answers.old }
-    ensures { OnOk result (string_bytes text.new ≡ string_bytes text.old ++ page_text page.now) }
+    ensures { OnOk result (Appends (L.held lines.old) (L.held lines.new) (page_text page.now)) }
 {
     let mut job = Job::new(page);
     while let Some(next) = job.next(answers).transpose() {
         match next {
-            Ok(answered) => push_line(text, &StrokeLine(&answered))?,
-            Err(stop) => return push_line(text, &Told::from(stop.fault)),
+            Ok(answered) => lines.put(&StrokeLine(&answered))?,
+            Err(stop) => return lines.put(&Told::from(stop.fault)),
         }
     }
     Ok(())
@@ -59,10 +94,29 @@ pub fn program_text(heap: Global, input: &[u8]) -> Result<String, AllocError>
 {
     let mut text = String::new(heap);
     if input.len() > LONGEST {
-        push_line(&mut text, &Told::from(InputCause::TooLong))?;
+        text.put(&Told::from(InputCause::TooLong))?;
         return Ok(text);
     }
     let mut answers = vec![in heap; 0u8; LONGEST]?;
-    push_page(&mut text, input, &mut answers)?;
+    put_page(&mut text, input, &mut answers)?;
     Ok(text)
+}
+
+// Writes the lines of a page, each before the next stroke is answered, and gives the writer back.
+pub fn write_page<W: io::Write + Drop>(heap: Global, out: W, page: &[u8]) -> io::Result<W>
+    ensures { IfOk result (λ w. Appends (W.contents out) (W.contents w) (page_text page.now)) }
+{
+    let mut answers = vec![in heap; 0u8; page.len()]?;
+    let mut lines = Written { heap, out };
+    put_page(&mut lines, page, &mut answers)?;
+    Ok(lines.out)
+}
+
+// Writes the line of a refusal, and gives the writer back.
+pub fn write_refusal<W: io::Write + Drop>(heap: Global, out: W, told: Told) -> io::Result<W>
+    ensures { IfOk result (λ w. Appends (W.contents out) (W.contents w) (with_feed (refusal_text told))) }
+{
+    let mut lines = Written { heap, out };
+    lines.put(&told)?;
+    Ok(lines.out)
 }

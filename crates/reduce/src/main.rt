@@ -1,24 +1,60 @@
 // The program: reads a page from standard input and prints a line for each of its strokes.
 #![tactic(auto)]
 
-ghost use Rattle.std.specs.Prelude.{◌≡◌, IfOk, IfSome, string_bytes};
-ghost use Rattle.lines.specs.Output.{program_text};
+ghost use Rattle.std.specs.Prelude.{◌≡◌, ◌<◌, ◌≤◌, length, take, IfOk, IfSome};
+ghost use Rattle.std.specs.Io.KnownBytes.{Appends, Consumes, IsAtEnd};
+ghost use Rattle.lines.specs.Output.{long_page, program_text};
 
 use lines::output;
-use lines::output::LONGEST;
+use lines::output::{InputCause, LONGEST};
+use refusal::Told;
 use std::alloc::Global;
-use std::io::Read;
+use std::io;
+use std::io::{Read, Write};
 
-// What is printed of an input. It is read up to one byte past the longest page, which is enough to refuse a longer one.
-fn printed<R: Read + Drop>(heap: Global, input: R) -> anyhow::Result<String>
-    ensures { IfOk result (λ text. IfSome (R.remaining input) (λ bs. string_bytes text ≡ program_text bs)) }
+// Fills the buffer as far as the input goes, and says how far that is.
+// Each read asks for all the room that is left: of a message that is longer than what was asked for, the rest would be lost.
+fn fill<R: Read>(input: &mut R, buf: &mut [u8]) -> io::Result<usize>
+    ensures fits { IfOk result (λ n. n ≤ length buf.new) }
+    ensures size { length buf.new ≡ length buf.old }
+    ensures bytes { IfOk result (λ n. Consumes (R.remaining input.old) (R.remaining input.new) (take n buf.new)) }
+    ensures end { IfOk result (λ n. n < length buf.new → IsAtEnd (R.remaining input.new)) }
 {
-    let mut page = Vec::new(heap);
-    input.take(LONGEST as u64 + 1).read_to_end(&mut page)?;
-    Ok(output::program_text(heap, &page)?)
+    let mut len = 0;
+    while len < buf.len() {
+        let n = input.read(&mut buf[len..])?;
+        if n == 0 {
+            return Ok(len);
+        }
+        len += n;
+    }
+    Ok(len)
+}
+
+// What is told of an input that is longer than any page.
+fn too_long() -> Told
+    ensures { result ≡ long_page }
+{
+    Told::from(InputCause::TooLong)
+}
+
+// Prints the lines of an input. It is read up to one byte past the longest page, which is enough to refuse a longer one.
+fn print_input<R: Read + Drop, W: Write + Drop>(
+    heap: Global,
+    mut input: R,
+    out: W,
+) -> anyhow::Result<W>
+    ensures { IfOk result (λ w. IfSome (R.remaining input) (λ bs. Appends (W.contents out) (W.contents w) (program_text bs))) }
+{
+    let mut page = vec![in heap; 0u8; LONGEST + 1]?;
+    let len = fill(&mut input, &mut page)?;
+    if len > LONGEST {
+        return Ok(output::write_refusal(heap, out, too_long())?);
+    }
+    Ok(output::write_page(heap, out, &page[..len])?)
 }
 
 fn main(rt: HostRuntime) -> anyhow::Result<()> {
-    rt.print(printed(rt.alloc(), rt.stdin())?)?;
+    print_input(rt.alloc(), rt.stdin(), rt.stdout())?;
     Ok(())
 }

@@ -1,8 +1,9 @@
 // Pages written and read: a stroke there and back, answers, and what is refused.
 use super::refuses;
+use lines::output::{InputCause, write_page, write_refusal};
 use page::fault::PageFault;
 use page::kinds::{Order, Point, Record, Step, Totals};
-use page::order::KnownOrder;
+use page::order::{KnownOrder, MeasureKind, TotalKind};
 use page::walk::Walk;
 use page::writer::Writer;
 use refusal::{Layer, Told};
@@ -20,6 +21,14 @@ const CORNER: Point = Point {
 const ORDER: Order = Order {
     measure: 1,
     total: 3,
+    span: 8191,
+    tolerance: 5,
+};
+
+// The same order, read.
+const KNOWN_ORDER: KnownOrder = KnownOrder {
+    measure: MeasureKind::Synchronous,
+    total: TotalKind::SumThenWorst,
     span: 8191,
     tolerance: 5,
 };
@@ -63,7 +72,7 @@ fn stroke_reads_back(rt: HostRuntime) -> Result<(), Fail> {
     let mut walk = Walk::new(&STROKE);
     assert_eq!(rt; walk.step()?, Step::Begin(7));
     assert_eq!(rt; walk.step()?, Step::Point(CORNER));
-    assert_eq!(rt; walk.step()?, Step::Finish(KnownOrder::try_from(ORDER)?));
+    assert_eq!(rt; walk.step()?, Step::Finish(KNOWN_ORDER));
     assert_eq!(rt; walk.step()?, Step::End);
     assert_eq!(rt; walk.step()?, Step::End);
     Ok(())
@@ -218,5 +227,16 @@ fn kept_record_needs_room(rt: HostRuntime) -> Result<(), Fail> {
     )?;
     assert_eq!(rt; writer.used, 0);
     assert_eq!(rt; writer.append_kept(&mut [9; 24], 7, totals, &[])?, 24);
+    Ok(())
+}
+
+#[test]
+fn lines_are_written(rt: HostRuntime) -> Result<(), Fail> {
+    let heap = rt.alloc();
+    let out = write_page(heap, Vec::new(heap), &STROKE)?;
+    assert_eq!(rt; out.as_slice(), "stroke 7 kept 1 total 0 0\n".as_bytes());
+    let told = Told::from(InputCause::TooLong);
+    let out = write_refusal(heap, Vec::new(heap), told)?;
+    assert_eq!(rt; out.as_slice(), "program refused 17 at 65536\n".as_bytes());
     Ok(())
 }

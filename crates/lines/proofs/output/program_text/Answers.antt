@@ -8,10 +8,10 @@ pub returns-then-input-gt-LONGEST-clause-text : goal.returns-then-input-gt-LONGE
 returns-then-input-gt-LONGEST-clause-text c =
     let bs : List ℕ = c.args.input.now in
     let long : ltb longest (length bs) ≡ true = lt-ltb _ _ c.if-input-gt-LONGEST.true in
-    c.in_ok-push_line.ensures _ refl ∙ (λ i. c.new-text.ensures.bytes i ++ with_feed (refusal_text (c.from.ensures i))) ∙ sym (cond-true _ _ _ long)
+    c.in_ok-put.ensures _ refl ∙ (λ i. c.new-text.ensures.bytes i ++ with_feed (refusal_text (c.from.ensures i))) ∙ sym (cond-true _ _ _ long)
 
 pub returns-clause-text : goal.returns-clause-text
 returns-clause-text c =
     let bs : List ℕ = c.args.input.now in
     let short : ltb longest (length bs) ≡ false = le-ltb _ _ c.if-input-gt-LONGEST.false in
-    c.in_ok-push_page.ensures ∙ ap (λ (v : List ℕ). v ++ page_text bs) c.new-text.ensures.bytes ∙ sym (cond-false _ _ _ short)
+    c.in_ok-put_page.ensures ∙ ap (λ (v : List ℕ). v ++ page_text bs) c.new-text.ensures.bytes ∙ sym (cond-false _ _ _ short)
