@@ -14,7 +14,6 @@ use Rattle.page.specs.declared.fault.PageCause.TheVariants.{ShortPage}
 use Rattle.page.specs.declared.fault.StepFault.{StepFault}
 use Rattle.page.specs.declared.fault.StepFault.TheVariants.{Page as Read, Answers}
 use Rattle.page.specs.Faults.{step_told, told_at}
-use Rattle.page.specs.Codes.{total_code}
 use Rattle.page.specs.Strokes.{Stroke}
 use Rattle.page.specs.Steps.{Reading, Ending, accepted, refused_by, reading}
 use Rattle.page.specs.Writes.{written}
@@ -62,7 +61,7 @@ abbrev pub line_of : Stroke → Line
 line_of s = record { number = s.number; total = s.order.total; reply = answer s }
 
 abbrev pub line : Answered → Line
-line a = record { number = a.number; total = total_code a.total; reply = shown a }
+line a = record { number = a.number; total = a.total; reply = shown a }
 
 -- what was told: a line, the end, or a refusal beside how many strokes were answered
 pub data Said : Type 0 where

@@ -4,7 +4,6 @@
 --   answer_bytes   its record on an answer page
 --   Answers a s    the code holds the answer of the stroke s
 use Rattle.std.specs.Prelude.{◌≡◌, ℕ, List, []}
-use Rattle.page.specs.Codes.{total_code}
 use Rattle.page.specs.Strokes.{Stroke}
 use Rattle.page.specs.Answers.{kept_bytes, refused_bytes}
 use Rattle.job.specs.declared.answered.Answered.{Answered}
@@ -24,5 +23,5 @@ answer_bytes n (refused t) = refused_bytes n t.number t.place
 
 pub record Answers (a : Answered) (s : Stroke) : Type 0 where
   pub number : a.number ≡ s.number
-  pub total : total_code a.total ≡ s.order.total
+  pub total : a.total ≡ s.order.total
   pub reply : shown a ≡ answer s

@@ -5,16 +5,16 @@ ghost use Rattle.job.specs.Records.{shown, kept_of, answer_bytes};
 
 use crate::kept::Kept;
 use page::fault::PageFault;
-use page::order::TotalKind;
 use page::writer::Writer;
 use refusal::Told;
 use tray::causes::Refusal;
 
-// The stroke's number, its kind of total, and what is kept of it or why it is refused.
+// The stroke's number, the code of its kind of total, and what is kept of it or why it is refused.
+// The kind is a code here: a caller may write any over it, and all that takes an answer takes each.
 #[derive(Clone, Copy)]
 pub struct Answered {
     pub number: u32,
-    pub total: TotalKind,
+    pub total: u8,
     pub reply: Result<Kept, Refusal>,
 }
 

@@ -15,6 +15,20 @@ pub struct Kept {
 }
 
 impl Kept {
+    ghost use Rattle.std.specs.Prelude.{[], Ok};
+    ghost use Rattle.job.specs.Answer.{kept, spoken};
+
+    // These figures with no number, for an answer that a caller writes.
+    pub fn new(totals: Totals) -> Kept
+        ensures { spoken (Ok result) ≡ kept totals [] }
+    {
+        Kept {
+            totals,
+            count: 0,
+            list: [0; 512],
+        }
+    }
+
     // The numbers of the points, in rising order.
     pub fn numbers(&self) -> &[u16]
         ensures { result.now ≡ take self.now.count self.now.list }

@@ -25,7 +25,7 @@ impl WholeStroke {
         } = self;
         Answered {
             number,
-            total: order.total,
+            total: order.total as u8,
             reply: open.finish(order),
         }
     }

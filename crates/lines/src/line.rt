@@ -1,6 +1,5 @@
 // The line of a stroke, part by part. The line of a refusal is that of what it tells.
 ghost use Rattle.std.specs.Prelude.{Some};
-ghost use Rattle.page.specs.Codes.{total_code};
 ghost use Rattle.job.specs.Jobs.{line as line_of};
 ghost use Rattle.job.specs.Records.{shown};
 ghost use Rattle.lines.specs.Text.{kept_text, figures_text, reply_text, line_text};
@@ -26,18 +25,18 @@ impl fmt::Display for KeptNumbers<'_> {
     }
 }
 
-// The figures of a total: one, or two for the sum and then the worst.
+// The figures of a total by its code: two for the sum and then the worst, and one for any other.
 #[derive(Clone, Copy)]
-struct Figures(TotalKind, Totals);
+struct Figures(u8, Totals);
 
 impl fmt::Display for Figures {
-    ghost output = { λ t. Some (figures_text (total_code t.0) t.1) };
+    ghost output = { λ t. Some (figures_text t.0 t.1) };
 
     fn fmt<W: fmt::Write>(&self, f: &mut fmt::Formatter<W>) -> fmt::Result {
         let Totals { first, second } = self.1;
-        match self.0 {
-            TotalKind::Sum | TotalKind::Worst => write!(f, " total {first}"),
-            TotalKind::SumThenWorst => write!(f, " total {first} {second}"),
+        match TotalKind::try_from(self.0) {
+            Ok(TotalKind::SumThenWorst) => write!(f, " total {first} {second}"),
+            _ => write!(f, " total {first}"),
         }
     }
 }
@@ -47,7 +46,7 @@ impl fmt::Display for Figures {
 struct Reply<'a>(&'a Answered);
 
 impl fmt::Display for Reply<'_> {
-    ghost output = { λ r. Some (reply_text (total_code r.0.now.total) (shown r.0.now)) };
+    ghost output = { λ r. Some (reply_text r.0.now.total (shown r.0.now)) };
 
     fn fmt<W: fmt::Write>(&self, f: &mut fmt::Formatter<W>) -> fmt::Result {
         match self.0.reply {
