@@ -7,10 +7,11 @@ use crate::answered::Answered;
 use crate::open::OpenStroke;
 use page::order::KnownOrder;
 
+// The open stroke stands first: else its table is moved as 8200 bytes, and glibc may turn to `rep movsb` above 8192.
 #[derive(Drop)]
 pub(crate) struct WholeStroke {
-    pub(crate) number: u32,
     pub(crate) open: OpenStroke,
+    pub(crate) number: u32,
     pub(crate) order: KnownOrder,
 }
 
