@@ -53,21 +53,23 @@ impl Lines for String {
     }
 }
 
-// A writer, with what a line is made in: each is written at once when it is made.
+// A writer, and the text of one line, which is written at once when it is made.
 #[derive(Drop)]
 struct Written<W> {
-    heap: Global,
+    line: String,
     out: W,
 }
 
 impl<W: io::Write> Lines for Written<W> {
     ghost held = { λ lines. W.contents lines.out };
 
-    type Error = io::Error;
+    type Error = anyhow::Error;
 
-    fn put<L: fmt::Display>(&mut self, line: &L) -> io::Result<()> {
-        let text = format!(in self.heap; "{line}\n")?;
-        self.out.write_all(text.as_bytes())
+    fn put<L: fmt::Display>(&mut self, line: &L) -> anyhow::Result<()> {
+        self.line.clear();
+        writeln!(self.line, "{line}")?;
+        self.out.write_all(self.line.as_bytes())?;
+        Ok(())
     }
 }
 
@@ -103,20 +105,22 @@ pub fn program_text(heap: Global, input: &[u8]) -> Result<String, AllocError>
 }
 
 // Writes the lines of a page, each before the next stroke is answered, and gives the writer back.
-pub fn write_page<W: io::Write + Drop>(heap: Global, out: W, page: &[u8]) -> io::Result<W>
+pub fn write_page<W: io::Write + Drop>(heap: Global, out: W, page: &[u8]) -> anyhow::Result<W>
     ensures { IfOk result (λ w. Appends (W.contents out) (W.contents w) (page_text page.now)) }
 {
     let mut answers = vec![in heap; 0u8; page.len()]?;
-    let mut lines = Written { heap, out };
+    let line = String::new(heap);
+    let mut lines = Written { line, out };
     put_page(&mut lines, page, &mut answers)?;
     Ok(lines.out)
 }
 
 // Writes the line of a refusal, and gives the writer back.
-pub fn write_refusal<W: io::Write + Drop>(heap: Global, out: W, told: Told) -> io::Result<W>
+pub fn write_refusal<W: io::Write + Drop>(heap: Global, out: W, told: Told) -> anyhow::Result<W>
     ensures { IfOk result (λ w. Appends (W.contents out) (W.contents w) (with_feed (refusal_text told))) }
 {
-    let mut lines = Written { heap, out };
+    let line = String::new(heap);
+    let mut lines = Written { line, out };
     lines.put(&told)?;
     Ok(lines.out)
 }
